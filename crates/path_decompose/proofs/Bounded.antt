@@ -1,8 +1,7 @@
 -- The image that edges bound.
-use Rattle.std.proofs.Common.{◌≡◌, ℕ, zero, suc, ◌+◌, ◌-◌, ◌*◌, ◌/◌, ◌%◌, ◌<◌, ◌≤◌, Bool, true, false, ◌&&◌, nat_le, nat_lt, List, ◌∷◌, length, get_or, replicate, refl, ap, sym, subst, ◌∙◌, inl, inr, arith}
+use Rattle.std.proofs.Common.{◌≡◌, ℕ, zero, suc, ◌+◌, ◌-◌, ◌*◌, ◌/◌, ◌%◌, ◌<◌, ◌≤◌, Bool, true, false, ◌&&◌, nat_le, nat_lt, List, ◌∷◌, length, get_or, refl, ap, sym, subst, ◌∙◌, inl, inr, arith}
 use Rattle.std.proofs.Math.Path.{fun_ext}
 use Rattle.std.proofs.lemmas.Bool.{cases_lt, le-leb, lt-leb, false_from_ne_true}
-use Rattle.std.proofs.lemmas.List.{get_or-replicate, get_or_past, length-replicate}
 use Rattle.bit_image.specs.Image.{Image, Fits, south_west, differ}
 use Rattle.bit_image.specs.Page.{Page, IsPage, image_of, page_of}
 use Rattle.bit_image.specs.Words.{is_one}
@@ -10,6 +9,7 @@ use Rattle.bit_image.specs.Inner.Words.{black_in}
 use Rattle.bit_image.proofs.Bits.{is_one-zero, black_in-at}
 use Rattle.bit_image.proofs.Pages.{image_of-page_of, image_of-page_of_above, image_of-page_of_right, IsPage-page_of, page_of-image_of, Fits-page}
 use Rattle.turn_policies.specs.Majority.{behind}
+use Rattle.path_decompose.proofs.Spread.{zeros, zero_at}
 use Rattle.path_decompose.specs.Inner.BoundaryBits.{has_edge, changes, AreEdgesOf, black_past, bounded_image, AreEdges, changes_in}
 
 and_false : (a : Bool) → a && false ≡ false
@@ -100,8 +100,12 @@ pub self_page : (w h rows strips : ℕ) (words : List ℕ) (page : Page) → Are
 self_page w h rows strips words page a is =
     subst IsPage is (IsPage-page_of w h (bounded_image rows words) a.some_width a.most_width a.some_height a.most_height)
 
+-- strips of whole blocks
+pub whole_blocks : (strips blocks : ℕ) → 16 * (strips * blocks) ≡ 2 * (strips * (8 * blocks))
+whole_blocks strips blocks = omega arith
+
 -- words that have the edges of a page
-pub made : (w h rows strips : ℕ) (words : List ℕ) (page : Page) → IsPage page → w ≡ page.width → h ≡ page.height → rows ≡ h + 8 → strips ≡ w / 64 + 2 → length words ≡ 2 * (strips * rows) → AreEdgesOf (image_of page) rows words
+pub made : (w h rows strips : ℕ) (words : List ℕ) (page : Page) → IsPage page → w ≡ page.width → h ≡ page.height → rows ≡ 8 * (h / 8 + 2) → strips ≡ w / 64 + 2 → length words ≡ 2 * (strips * rows) → AreEdgesOf (image_of page) rows words
     → AreEdges w h rows strips words × (page_of w h (bounded_image rows words) ≡ page)
 made w h rows strips words page is width height row_count strip_count size edges =
     let image : bounded_image rows words ≡ image_of page = bounded_is (image_of page) rows words edges in (
@@ -222,15 +226,6 @@ changes-white b zero x y here next = ap (λ t. differ t (behind b 4 (suc x) y)) 
 changes-white b (suc k) x y here next = ap (λ t. differ t (behind b 4 x (suc y))) (behind-white b x y here) ∙ behind-white b x (suc y) next
 
 -- words of 0 have no edges and no pixels
-abbrev pub zeros : ℕ → List ℕ
-zeros n = replicate n 0
-
-zero_at : (n i : ℕ) → get_or (zeros n) i 0 ≡ 0
-zero_at n i = elim (cases_lt i n) [
-  | inl inside ↦ get_or-replicate n i 0 0 inside
-  | inr past ↦ (let size : length (zeros n) ≡ n = length-replicate n 0 in get_or_past (zeros n) i 0 (omega arith))
-]
-
 pub no_edges : (n rows : ℕ) (words : List ℕ) (k u v : ℕ) → words ≡ zeros n → has_edge rows words k u v ≡ false
 unfolding has_edge
 no_edges n rows words k u v blank =

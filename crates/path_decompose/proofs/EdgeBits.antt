@@ -1,20 +1,19 @@
 -- One bit of the words of edges after a write.
-use Rattle.std.proofs.Common.{◌≡◌, ℕ, zero, suc, ◌+◌, ◌-◌, ◌*◌, ◌/◌, ◌%◌, ◌^◌, ◌<◌, ◌≤◌, Bool, true, false, cond, ◌&&◌, ◌||◌, nat_eq, nat_lt, List, [], ◌∷◌, length, get_or, set, w64, refl, ap, sym, ◌∙◌, inl, inr, arith}
+use Rattle.std.proofs.Common.{◌≡◌, ℕ, zero, suc, ◌+◌, ◌-◌, ◌*◌, ◌/◌, ◌%◌, ◌^◌, ◌<◌, ◌≤◌, Bool, true, false, not, cond, ◌&&◌, ◌||◌, nat_eq, nat_lt, List, [], ◌∷◌, length, get_or, set, w64, refl, ap, sym, ◌∙◌, inl, inr, arith}
 use Rattle.std.specs.Int.RustNames.{bit_and, bit_or, bit_xor}
 use Rattle.std.proofs.lemmas.Bool.{cases_lt, cases_eq, cases_order, cond-true, cond-false, eq-eqb, ne_eqb, eqb-true, and_from, and_parts, and_left, lt-ltb, cases_Bool}
 use Rattle.std.proofs.lemmas.Bool.Decides.{nat_tests}
-use Rattle.std.specs.Int.{trailing_zeros}
+use Rattle.std.specs.Int.{bit_at, bit_not, trailing_zeros}
 use Rattle.std.proofs.lemmas.Nat.{row_fits, mul-le, and_le_l}
-use Rattle.std.proofs.lemmas.Nat.Bits.{bit_at_above, shr_and_one, bit_at-trailing_zeros}
+use Rattle.std.proofs.lemmas.Nat.Bits.{bit_at_above, bit_at_not, bit_at-lt, shr_and_one, bit_at-trailing_zeros}
 use Rattle.std.proofs.lemmas.Grind.{get_or-set_at}
 use Rattle.std.proofs.lemmas.List.{get_or-set_other, get_or_past}
 use Rattle.bit_image.specs.Image.{differ}
 use Rattle.bit_image.specs.Words.{is_one}
 use Rattle.bit_image.specs.Inner.Words.{black_in}
-use Rattle.bit_image.proofs.Bits.{is_one-xor, is_one-zero, black_in-at, black_in-past, black_in-lowest, black_in-below_lowest, black_in-lowest_from, black_in-below_lowest_from, black_in-none_from}
+use Rattle.bit_image.proofs.Bits.{is_one-and, is_one-xor, is_one-zero, and_true, black_in-at, black_in-past, black_in-lowest, black_in-below_lowest, black_in-lowest_from, black_in-below_lowest_from, black_in-none_from}
 use Rattle.bit_image.proofs.Turned.{is_one-or, is_one-shr, is_one-shl, is_one-shl_below}
 use Rattle.path_decompose.specs.Inner.BoundaryBits.{word_place, has_edge, changes_in, same_edge}
-use Rattle.path_decompose.proofs.Differ.{differ-false}
 
 pub no_bit : (n k i : ℕ) → n < 2 ^ k → k ≤ i → is_one n i ≡ false
 unfolding is_one
@@ -24,14 +23,6 @@ no_bit n k i p q = ap (λ b. nat_eq b 1) (bit_at_above n k i p q)
 pub read_bit : (word i : ℕ) → nat_eq (bit_and (word / 2 ^ i) 1) 1 ≡ is_one word i
 unfolding is_one
 read_bit word i = ap (λ n. nat_eq n 1) (shr_and_one word i)
-
--- an edge that is read
-pub has_edge-read : (rows : ℕ) (words : List ℕ) (kind x y at : ℕ) → y < rows → at ≡ word_place rows kind (x / 64) y → nat_eq (bit_and (get_or words at 0 / 2 ^ (x % 64)) 1) 1 ≡ has_edge rows words kind x y
-unfolding has_edge
-has_edge-read rows words kind x y at low place =
-    read_bit (get_or words at 0) (x % 64)
-    ∙ ap (λ n. is_one (get_or words n 0) (x % 64)) place
-    ∙ sym (ap (λ t. t && is_one (get_or words (word_place rows kind (x / 64) y) 0) (x % 64)) (lt-ltb y rows low))
 
 -- each word has a place of its own
 pub places_apart : (rows s t y v kind k : ℕ) → y < rows → v < rows → kind < 2 → k < 2 → word_place rows k t v ≡ word_place rows kind s y → (kind ≡ k) × (s ≡ t) × (y ≡ v)
@@ -55,6 +46,17 @@ pub strip_room : (rows strips strip size : ℕ) → strip < strips → size ≡ 
 strip_room rows strips strip size below is =
     let fits : (strip + 1) * rows ≤ strips * rows = mul-le (strip + 1) rows strips rows (omega arith) (omega arith) in
     omega arith
+
+-- a row's place in its block is the same in all strips, where these are whole blocks
+pub place_in_block : (rows strip y : ℕ) → rows % 8 ≡ 0 → 16 * (strip * (rows / 8) + y / 8) + 2 * (y % 8) ≡ word_place rows 0 strip y
+place_in_block rows strip y whole =
+    let blocks : ℕ = rows / 8 in
+    let is : rows ≡ 8 * blocks = omega (arith, whole) in
+    let product : strip * rows ≡ 8 * (strip * blocks) = ap (λ n. strip * n) is ∙ eight_times strip blocks in
+    omega (arith, product)
+  where
+    eight_times : (a b : ℕ) → a * (8 * b) ≡ 8 * (a * b)
+    eight_times a b = omega arith
 
 -- a word that is written whole
 pub has_edge-set : (rows : ℕ) (words : List ℕ) (kind strip y at word : ℕ) → y < rows → kind < 2 → at ≡ word_place rows kind strip y → at < length words
@@ -119,16 +121,28 @@ pub has_edge-low : (rows : ℕ) (words : List ℕ) (k u v : ℕ) → v < rows �
 unfolding has_edge
 has_edge-low rows words k u v low = ap (λ t. t && is_one (get_or words (word_place rows k (u / 64) v) 0) (u % 64)) (lt-ltb v rows low)
 
--- an edge that is flipped
-pub has_edge-flip : (rows : ℕ) (words : List ℕ) (kind x y at bit : ℕ) → y < rows → kind < 2 → at ≡ word_place rows kind (x / 64) y → at < length words → ((i : ℕ) → i < 64 → is_one bit i ≡ nat_eq (x % 64) i)
-    → (k u v : ℕ) → k < 2 → has_edge rows (set words at (bit_xor (get_or words at 0) bit)) k u v ≡ differ (has_edge rows words k u v) (same_edge kind x y k u v)
-has_edge-flip rows words kind x y at bit low p place inside one k u v q =
-    let word : ℕ = bit_xor (get_or words at 0) bit in
+-- an edge that is read
+pub has_edge-read : (rows : ℕ) (words : List ℕ) (kind x y word : ℕ) → y < rows → word ≡ get_or words (word_place rows kind (x / 64) y) 0 → nat_eq (bit_and (word / 2 ^ (x % 64)) 1) 1 ≡ has_edge rows words kind x y
+has_edge-read rows words kind x y word low is = read_bit word (x % 64) ∙ ap (λ n. is_one n (x % 64)) is ∙ sym (has_edge-low rows words kind x y low)
+
+-- a word with each bit turned
+is_one-not : (word i : ℕ) → word < 2 ^ 64 → i < 64 → is_one (bit_not w64 word) i ≡ not (is_one word i)
+unfolding is_one
+is_one-not word i fits short = ap (λ b. nat_eq b 1) (bit_at_not w64 word i fits short) ∙ turned (bit_at word i) (bit_at-lt word i)
+  where
+    turned : (b : ℕ) → b < 2 → nat_eq (1 - b) 1 ≡ not (nat_eq b 1)
+    turned b small = grind (arith, nat_tests)
+
+-- an edge that is taken away
+pub has_edge-take : (rows : ℕ) (words : List ℕ) (kind x y at bit : ℕ) → y < rows → kind < 2 → at ≡ word_place rows kind (x / 64) y → at < length words → bit < 2 ^ 64 → ((i : ℕ) → i < 64 → is_one bit i ≡ nat_eq (x % 64) i)
+    → (k u v : ℕ) → k < 2 → has_edge rows (set words at (bit_and (get_or words at 0) (bit_not w64 bit))) k u v ≡ has_edge rows words k u v && not (same_edge kind x y k u v)
+has_edge-take rows words kind x y at bit low p place inside fits one k u v q =
+    let word : ℕ = bit_and (get_or words at 0) (bit_not w64 bit) in
     has_edge-set rows words kind (x / 64) y at word low p place inside k u v q
     ∙ elim (cases_Bool (same_edge kind (x / 64) y k (u / 64) v)) [
       | inr other ↦
           cond-false _ (is_one word (u % 64)) (has_edge rows words k u v) other
-          ∙ sym (ap (differ (has_edge rows words k u v)) (elsewhere (nat_eq kind k) (nat_eq y v) other) ∙ differ-false (has_edge rows words k u v))
+          ∙ sym (ap (λ t. has_edge rows words k u v && not t) (elsewhere (nat_eq kind k) (nat_eq y v) other) ∙ and_true (has_edge rows words k u v))
       | inl same ↦
           let first = and_parts (nat_eq kind k) (nat_eq (x / 64) (u / 64) && nat_eq y v) same in
           let rest = and_parts (nat_eq (x / 64) (u / 64)) (nat_eq y v) first.1 in
@@ -136,9 +150,11 @@ has_edge-flip rows words kind x y at bit low p place inside one k u v q =
           let b : x / 64 ≡ u / 64 = eqb-true (x / 64) (u / 64) rest.0 in
           let c : y ≡ v = eqb-true y v rest.1 in
           cond-true _ (is_one word (u % 64)) (has_edge rows words k u v) same
-          ∙ is_one-xor (get_or words at 0) bit (u % 64)
-          ∙ ap (λ t. differ (is_one (get_or words at 0) (u % 64)) t) (one (u % 64) (omega arith) ∙ same_column x u b ∙ here (nat_eq kind k) (nat_eq x u) (nat_eq y v) first.0 rest.1)
-          ∙ ap (λ t. differ t (same_edge kind x y k u v))
+          ∙ is_one-and (get_or words at 0) (bit_not w64 bit) (u % 64)
+          ∙ ap (λ t. is_one (get_or words at 0) (u % 64) && t)
+          (is_one-not bit (u % 64) fits (omega arith)
+          ∙ ap not (one (u % 64) (omega arith) ∙ same_column x u b ∙ here (nat_eq kind k) (nat_eq x u) (nat_eq y v) first.0 rest.1))
+          ∙ ap (λ t. t && not (same_edge kind x y k u v))
           (ap (λ n. is_one (get_or words n 0) (u % 64)) (place ∙ ap (λ n. word_place rows n (x / 64) y) a ∙ ap (λ n. word_place rows k n y) b ∙ ap (word_place rows k (u / 64)) c)
           ∙ sym (has_edge-low rows words k u v (omega arith)))
     ]
@@ -219,14 +235,14 @@ changes_in-past below above (suc k) u same past p =
 
 -- ---- the first edge
 
-pub has_edge-at : (rows : ℕ) (words : List ℕ) (kind strip i y at : ℕ) → y < rows → i < 64 → at ≡ word_place rows kind strip y → has_edge rows words kind (64 * strip + i) y ≡ is_one (get_or words at 0) i
-has_edge-at rows words kind strip i y at low p place =
-    let word : (64 * strip + i) / 64 ≡ strip = omega arith in
+has_edge-at : (rows : ℕ) (words : List ℕ) (kind strip i y word : ℕ) → y < rows → i < 64 → word ≡ get_or words (word_place rows kind strip y) 0 → has_edge rows words kind (64 * strip + i) y ≡ is_one word i
+has_edge-at rows words kind strip i y word low p is =
+    let column : (64 * strip + i) / 64 ≡ strip = omega arith in
     let bit : (64 * strip + i) % 64 ≡ i = omega arith in
     has_edge-low rows words kind (64 * strip + i) y low
-    ∙ ap (λ n. is_one (get_or words (word_place rows kind n y) 0) ((64 * strip + i) % 64)) word
+    ∙ ap (λ n. is_one (get_or words (word_place rows kind n y) 0) ((64 * strip + i) % 64)) column
     ∙ ap (is_one (get_or words (word_place rows kind strip y) 0)) bit
-    ∙ ap (λ n. is_one (get_or words n 0) i) (sym place)
+    ∙ ap (λ n. is_one n i) (sym is)
 
 -- right of all strips there are no edges
 pub has_edge-past : (rows strips : ℕ) (words : List ℕ) (kind u y : ℕ) → length words ≡ 2 * (strips * rows) → strips ≤ u / 64 → has_edge rows words kind u y ≡ false
@@ -279,40 +295,38 @@ lowest_whole word q fits =
     )
 
 -- what the lowest 1 says of a row
-pub edge_found : (rows : ℕ) (words : List ℕ) (strip k t y at : ℕ) → y < rows → at ≡ word_place rows 0 strip y → IsLowest (get_or words at 0) k t
+pub edge_found : (rows : ℕ) (words : List ℕ) (strip k t y word : ℕ) → y < rows → word ≡ get_or words (word_place rows 0 strip y) 0 → IsLowest word k t
     → (64 * strip + k ≤ 64 * strip + t) × (has_edge rows words 0 (64 * strip + t) y ≡ true) × ((u : ℕ) → 64 * strip + k ≤ u → u < 64 * strip + t → has_edge rows words 0 u y ≡ false)
 unfolding IsLowest
-edge_found rows words strip k t y at low place found = (
+edge_found rows words strip k t y word low is found = (
   omega (arith, found.0),
-  has_edge-at rows words 0 strip t y at low found.1 place ∙ found.2,
+  has_edge-at rows words 0 strip t y word low found.1 is ∙ found.2,
   λ u right left.
       let column : u ≡ 64 * strip + (u - 64 * strip) = omega arith in
       ap (λ n. has_edge rows words 0 n y) column
-      ∙ has_edge-at rows words 0 strip (u - 64 * strip) y at low (omega (arith, found.1)) place
+      ∙ has_edge-at rows words 0 strip (u - 64 * strip) y word low (omega (arith, found.1)) is
       ∙ found.3 (u - 64 * strip) (omega arith) (omega arith),
 )
 
-pub edge_none : (rows : ℕ) (words : List ℕ) (strip y at u : ℕ) → y < rows → at ≡ word_place rows 0 strip y → 64 * strip ≤ u → u < 64 * strip + 64 → is_one (get_or words at 0) (u - 64 * strip) ≡ false → has_edge rows words 0 u y ≡ false
-edge_none rows words strip y at u low place right left none =
+pub edge_none : (rows : ℕ) (words : List ℕ) (strip y word u : ℕ) → y < rows → word ≡ get_or words (word_place rows 0 strip y) 0 → 64 * strip ≤ u → u < 64 * strip + 64 → is_one word (u - 64 * strip) ≡ false → has_edge rows words 0 u y ≡ false
+edge_none rows words strip y word u low is right left none =
     let column : u ≡ 64 * strip + (u - 64 * strip) = omega arith in
     ap (λ n. has_edge rows words 0 n y) column
-    ∙ has_edge-at rows words 0 strip (u - 64 * strip) y at low (omega arith) place
+    ∙ has_edge-at rows words 0 strip (u - 64 * strip) y word low (omega arith) is
     ∙ none
 
 -- ---- eight edges
 
-pub eight_within : (rows : ℕ) (words : List ℕ) (x y at i : ℕ) → y < rows → i < 8 → x % 64 ≤ 56 → at ≡ word_place rows 0 (x / 64) y → is_one (get_or words at 0 / 2 ^ (x % 64)) i ≡ has_edge rows words 0 (x + i) y
-eight_within rows words x y at i low p inside place =
+pub eight_within : (rows : ℕ) (words : List ℕ) (x y word i : ℕ) → y < rows → i < 8 → x % 64 ≤ 56 → word ≡ get_or words (word_place rows 0 (x / 64) y) 0 → is_one (word / 2 ^ (x % 64)) i ≡ has_edge rows words 0 (x + i) y
+eight_within rows words x y word i low p inside is =
     let column : x + i ≡ 64 * (x / 64) + (x % 64 + i) = omega arith in
-    is_one-shr (get_or words at 0) (x % 64) i
-    ∙ sym (ap (λ n. has_edge rows words 0 n y) column ∙ has_edge-at rows words 0 (x / 64) (x % 64 + i) y at low (omega arith) place)
+    is_one-shr word (x % 64) i
+    ∙ sym (ap (λ n. has_edge rows words 0 n y) column ∙ has_edge-at rows words 0 (x / 64) (x % 64 + i) y word low (omega arith) is)
 
-pub eight_over : (rows : ℕ) (words : List ℕ) (x y at next i : ℕ) → y < rows → i < 8 → 56 < x % 64 → get_or words at 0 < 2 ^ 64 → at ≡ word_place rows 0 (x / 64) y → next ≡ word_place rows 0 (x / 64 + 1) y
-    → is_one (bit_or (get_or words at 0 / 2 ^ (x % 64)) (get_or words next 0 * 2 ^ (64 - x % 64) % 2 ^ 64)) i ≡ has_edge rows words 0 (x + i) y
-eight_over rows words x y at next i low p over fits place other =
+pub eight_over : (rows : ℕ) (words : List ℕ) (x y n m i : ℕ) → y < rows → i < 8 → 56 < x % 64 → n < 2 ^ 64 → n ≡ get_or words (word_place rows 0 (x / 64) y) 0 → m ≡ get_or words (word_place rows 0 (x / 64 + 1) y) 0
+    → is_one (bit_or (n / 2 ^ (x % 64)) (m * 2 ^ (64 - x % 64) % 2 ^ 64)) i ≡ has_edge rows words 0 (x + i) y
+eight_over rows words x y n m i low p over fits is other =
     let k : ℕ = x % 64 in
-    let n : ℕ = get_or words at 0 in
-    let m : ℕ = get_or words next 0 in
     is_one-or (n / 2 ^ k) (m * 2 ^ (64 - k) % 2 ^ 64) i
     ∙ ap (λ t. t || is_one (m * 2 ^ (64 - k) % 2 ^ 64) i) (is_one-shr n k i)
     ∙ elim (cases_lt (k + i) 64) [
@@ -320,10 +334,10 @@ eight_over rows words x y at next i low p over fits place other =
           let column : x + i ≡ 64 * (x / 64) + (x % 64 + i) = omega arith in
           ap (λ t. is_one n (k + i) || t) (is_one-shl_below m (64 - k) i (omega arith) (omega arith))
           ∙ or_false (is_one n (k + i))
-          ∙ sym (ap (λ c. has_edge rows words 0 c y) column ∙ has_edge-at rows words 0 (x / 64) (k + i) y at low here place)
+          ∙ sym (ap (λ c. has_edge rows words 0 c y) column ∙ has_edge-at rows words 0 (x / 64) (k + i) y n low here is)
       | inr after ↦
           let column : x + i ≡ 64 * (x / 64 + 1) + (i - (64 - x % 64)) = omega arith in
           ap (λ t. t || is_one (m * 2 ^ (64 - k) % 2 ^ 64) i) (no_bit n 64 (k + i) fits after)
           ∙ is_one-shl m (64 - k) i (omega arith) (omega arith)
-          ∙ sym (ap (λ c. has_edge rows words 0 c y) column ∙ has_edge-at rows words 0 (x / 64 + 1) (i - (64 - k)) y next low (omega arith) other)
+          ∙ sym (ap (λ c. has_edge rows words 0 c y) column ∙ has_edge-at rows words 0 (x / 64 + 1) (i - (64 - k)) y m low (omega arith) other)
     ]

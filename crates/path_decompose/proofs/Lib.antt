@@ -26,7 +26,9 @@ pub mod Sides
 pub mod Area
 pub mod Noted
 pub mod Runs
+pub mod Spread
 pub mod EdgeBits
+pub mod EdgeTaken
 pub mod LineSpots
 pub mod Straight
 pub mod Taken

@@ -1,5 +1,5 @@
 -- Where the edges of a corner stand beside those of the next one, and which of them lies along the line between the two.
-use Rattle.std.proofs.Common.{◌≡◌, ◌≢◌, ℕ, suc, ◌+◌, ◌-◌, ◌*◌, ◌/◌, ◌%◌, ◌^◌, ◌<◌, ◌≤◌, ℤ, pos, ◌≤ℤ◌, nat_abs, true, false, ◌⊎◌, cond, min, max, nat_eq, List, All, length, get_or, w32, w64, to_z, of_z, refl, ap, sym, subst, ◌∙◌, inl, inr, arith}
+use Rattle.std.proofs.Common.{◌≡◌, ◌≢◌, ℕ, suc, ◌+◌, ◌-◌, ◌*◌, ◌/◌, ◌%◌, ◌^◌, ◌<◌, ◌≤◌, ℤ, pos, ◌≤ℤ◌, nat_abs, true, false, ◌⊎◌, cond, min, max, nat_eq, List, length, get_or, w32, w64, to_z, of_z, refl, ap, sym, subst, ◌∙◌, inl, inr, arith}
 use Rattle.std.specs.Int.{trailing_zeros}
 use Rattle.std.proofs.lemmas.Nat.Bits.{bit_at-trailing_zeros}
 use Rattle.std.proofs.lemmas.Bool.Decides.{nat_tests}
@@ -13,8 +13,9 @@ use Rattle.pt_core.specs.declared.point.Point.{Point}
 use Rattle.path_decompose.specs.declared.strips.Spot.{Spot}
 use Rattle.path_decompose.specs.GridEdges.{upright, level}
 use Rattle.path_decompose.specs.Inside.{line_at, line_between}
-use Rattle.path_decompose.specs.Inner.BoundaryBits.{word_place, same_edge, is_along, FitsStrips, IsSpot}
-use Rattle.path_decompose.proofs.EdgeBits.{no_bit, place_inside}
+use Rattle.path_decompose.specs.Inner.Blocks.{AreBlocks}
+use Rattle.path_decompose.specs.Inner.BoundaryBits.{same_edge, is_along, FitsStrips, HasSpot, IsSpot}
+use Rattle.path_decompose.proofs.EdgeBits.{no_bit}
 use Rattle.path_decompose.proofs.Rows.{next_natural}
 
 -- the lowest 1 of a word
@@ -72,14 +73,15 @@ pub unit_parts : (rows size : ℕ) (p q : Point) → FitsStrips rows size p → 
 unit_parts rows size p q hp hq (inl along) = inr (ap nat_abs along.0, next_natural p.x q.x hp.right hq.right along.1)
 unit_parts rows size p q hp hq (inr up) = inl (ap nat_abs up.0, next_natural p.y q.y hp.above hq.above up.1)
 
-pub spot_same : (rows x y u v : ℕ) (spot : Spot) → IsSpot rows x y spot → x ≡ u → y ≡ v → IsSpot rows u v spot
-spot_same rows x y u v spot is column row = subst (λ n. IsSpot rows u n spot) row (subst (λ n. IsSpot rows n y spot) column is)
+pub spot_same : (rows : ℕ) (starts : List ℕ) (x y u v : ℕ) (spot : Spot) → IsSpot rows starts x y spot → x ≡ u → y ≡ v → IsSpot rows starts u v spot
+spot_same rows starts x y u v spot is column row = subst (λ n. IsSpot rows starts u n spot) row (subst (λ n. IsSpot rows starts n y spot) column is)
 
--- a corner's two words are among the words
-pub spot_inside : (rows size kind : ℕ) (p : Point) (spot : Spot) → FitsStrips rows size p → IsSpot rows (nat_abs p.x + 3) (nat_abs p.y + 3) spot → kind < 2 → spot.down + kind < size
-spot_inside rows size kind p spot fits is small =
-    let inside : word_place rows kind ((nat_abs p.x + 3) / 64) (nat_abs p.y + 3) < size = place_inside rows ((nat_abs p.x + 3) / 64) (nat_abs p.y + 3) kind size fits.row small fits.room in
-    omega (arith, inside, is.place)
+-- a corner with room has a spot
+pub has_spot : (rows : ℕ) (starts words : List ℕ) (p : Point) (x y : ℕ) → rows < 2 ^ 16 → AreBlocks starts words → FitsStrips rows (16 * length starts) p → nat_abs p.x + 3 ≡ x → nat_abs p.y + 3 ≡ y → HasSpot rows starts x y
+has_spot rows starts words p x y few blocks fits column row =
+    subst (λ n. HasSpot rows starts n y) column
+    (subst (λ n. HasSpot rows starts (nat_abs p.x + 3) n) row
+    (record { few = few; column = fits.column; row = fits.row; room = fits.room; start = blocks.start }))
 
 spot_up : (a b d k u v : ℕ) → (b ≡ suc d) ⊎ (d ≡ suc b) → (c : ℕ) → a ≡ c → same_edge 0 (max a c + 3) (max b d + 3) k u v ≡ is_along k u v (line_at a b c d)
 spot_up a b d k u v next c same =
@@ -137,7 +139,3 @@ pub step_last : (points : List Point) (k : ℕ) → IsClosedWalk points → suc 
 step_last points k closed last =
     subst (λ j. IsUnitStep (get_or points j origin) (get_or points 0 origin)) (mod-eq_of_lt {n = k} {m = length points} (omega arith))
     (subst (λ j. IsUnitStep (get_or points (k % length points) origin) (get_or points j origin)) (ap (λ n. n % length points) last ∙ mod_self (length points)) (closed.steps k))
-
--- a point of a path, where the words are as many as they were
-pub rooms_at : (rows size kept : ℕ) (points : List Point) (k : ℕ) → All (FitsStrips rows size) points → kept ≡ size → k < length points → FitsStrips rows kept (get_or points k origin)
-rooms_at rows size kept points k rooms same short = subst (λ n. FitsStrips rows n (get_or points k origin)) (sym same) (rooms k origin short)

@@ -1,16 +1,19 @@
--- Where a stretch of a closed walk leads as far as it can, its lines all have one heading; and what each line flips.
-use Rattle.std.proofs.Common.{◌≡◌, ℕ, zero, suc, ◌+◌, ◌-◌, ◌<◌, ◌≤◌, ◌⊎◌, nat_abs, List, length, get_or, ap, sym, subst, ◌∙◌, inl, inr, arith}
-use Rattle.bit_image.specs.Image.{differ}
+-- Where a stretch of a closed walk leads as far as it can, its lines all have one heading; and what is taken away along each.
+use Rattle.std.proofs.Common.{◌≡◌, ℕ, zero, suc, ◌+◌, ◌-◌, ◌<◌, ◌≤◌, ◌⊎◌, nat_abs, Bool, true, false, not, cond, ◌&&◌, ◌||◌, nat_lt, List, [], ◌∷◌, length, get_or, count_by, refl, ap, sym, subst, ◌∙◌, inl, inr, arith}
+use Rattle.std.proofs.lemmas.Bool.Decides.{nat_tests}
+use Rattle.std.proofs.lemmas.List.Sums.{sum_by-cons}
 use Rattle.pt_core.specs.ClosedWalk.{origin, IsUnitStep, IsClosedWalk}
 use Rattle.pt_core.specs.declared.point.Point.{Point}
+use Rattle.turn_policies.specs.declared.heading.Dir.{Dir}
 use Rattle.turn_policies.specs.declared.heading.Dir.TheVariants.{North, East, South, West}
-use Rattle.path_decompose.specs.Inside.{line_between}
+use Rattle.path_decompose.specs.GridEdges.{GridEdge}
+use Rattle.path_decompose.specs.Inside.{line_between, lines_of}
+use Rattle.path_decompose.specs.Inner.Blocks.{spread, AreBlocks}
 use Rattle.path_decompose.specs.Inner.BoundaryBits.{has_edge, is_along}
-use Rattle.path_decompose.specs.Inner.Flipped.{IsTowards, AreWordsFor, lines_from, AreFlipped}
-use Rattle.path_decompose.proofs.Corners.{lines_to-drop}
-use Rattle.path_decompose.proofs.Differ.{differ_assoc}
+use Rattle.path_decompose.specs.Inner.Taken.{IsTowards, AreWordsFor, lines_from, is_along_any, AreTakenBy, AreTaken}
+use Rattle.path_decompose.proofs.Corners.{lines_to-drop, lines_to-end, lines_of-drop}
+use Rattle.path_decompose.proofs.EdgeBits.{or_false}
 use Rattle.path_decompose.proofs.LineSpots.{step_at, unit_parts}
-use Rattle.path_decompose.proofs.Parity.{odd_by, is_odd-count}
 
 -- ---- numbers that change by at most one at a time
 
@@ -59,10 +62,10 @@ far_apart g n k j one low short most far =
 
 -- ---- a walk's corners
 
-abbrev pub column_at : List Point → ℕ → ℕ
+abbrev column_at : List Point → ℕ → ℕ
 column_at points i = nat_abs (get_or points i origin).x
 
-abbrev pub row_at : List Point → ℕ → ℕ
+abbrev row_at : List Point → ℕ → ℕ
 row_at points i = nat_abs (get_or points i origin).y
 
 pub step_next : (points : List Point) (k : ℕ) → IsClosedWalk points → k + 1 < length points → IsUnitStep (get_or points k origin) (get_or points (k + 1) origin)
@@ -89,58 +92,129 @@ gradual_columns rows size points words i short = elim (parts_at rows size points
   | inr along ↦ elim along.1 [ inl left ↦ (omega (arith, left), omega (arith, left)) | inr right ↦ (omega (arith, right), omega (arith, right)) ]
 ]
 
-pub far_rows : (rows size : ℕ) (points : List Point) (k j : ℕ) → AreWordsFor points rows size → k ≤ j → j < length points → j ≤ k + 32
+far_rows : (rows size : ℕ) (points : List Point) (k j : ℕ) → AreWordsFor points rows size → k ≤ j → j < length points → j ≤ k + 32
     → (row_at points j ≡ row_at points k + 32) ⊎ (row_at points k ≡ row_at points j + 32) → j ≡ k + 32
 far_rows rows size points k j words low short most far = far_apart (row_at points) (length points - 1) k j (gradual_rows rows size points words) low (omega (arith, short)) most far
 
-pub far_columns : (rows size : ℕ) (points : List Point) (k j : ℕ) → AreWordsFor points rows size → k ≤ j → j < length points → j ≤ k + 32
+far_columns : (rows size : ℕ) (points : List Point) (k j : ℕ) → AreWordsFor points rows size → k ≤ j → j < length points → j ≤ k + 32
     → (column_at points j ≡ column_at points k + 32) ⊎ (column_at points k ≡ column_at points j + 32) → j ≡ k + 32
 far_columns rows size points k j words low short most far = far_apart (column_at points) (length points - 1) k j (gradual_columns rows size points words) low (omega (arith, short)) most far
 
-pub straight_north : (rows size : ℕ) (points : List Point) (k i : ℕ) → AreWordsFor points rows size → k + 32 < length points → row_at points (k + 32) ≡ row_at points k + 32 → k ≤ i → i < k + 32
+straight_north : (rows size : ℕ) (points : List Point) (k i : ℕ) → AreWordsFor points rows size → k + 32 < length points → row_at points (k + 32) ≡ row_at points k + 32 → k ≤ i → i < k + 32
     → IsTowards North (get_or points i origin) (get_or points (i + 1) origin)
 straight_north rows size points k i words short far low high =
     let rise = rises_all (row_at points) (length points - 1) k i (gradual_rows rows size points words) (omega (arith, short)) far low high in
     elim (parts_at rows size points i words (omega (arith, short, high))) [ inl up ↦ (up.0, rise) | inr along ↦ absurd (omega (arith, along.0, rise)) ]
 
-pub straight_south : (rows size : ℕ) (points : List Point) (k i : ℕ) → AreWordsFor points rows size → k + 32 < length points → row_at points k ≡ row_at points (k + 32) + 32 → k ≤ i → i < k + 32
+straight_south : (rows size : ℕ) (points : List Point) (k i : ℕ) → AreWordsFor points rows size → k + 32 < length points → row_at points k ≡ row_at points (k + 32) + 32 → k ≤ i → i < k + 32
     → IsTowards South (get_or points i origin) (get_or points (i + 1) origin)
 straight_south rows size points k i words short far low high =
     let fall = falls_all (row_at points) (length points - 1) k i (gradual_rows rows size points words) (omega (arith, short)) far low high in
     elim (parts_at rows size points i words (omega (arith, short, high))) [ inl up ↦ (up.0, fall) | inr along ↦ absurd (omega (arith, along.0, fall)) ]
 
-pub straight_east : (rows size : ℕ) (points : List Point) (k i : ℕ) → AreWordsFor points rows size → k + 32 < length points → column_at points (k + 32) ≡ column_at points k + 32 → k ≤ i → i < k + 32
+straight_east : (rows size : ℕ) (points : List Point) (k i : ℕ) → AreWordsFor points rows size → k + 32 < length points → column_at points (k + 32) ≡ column_at points k + 32 → k ≤ i → i < k + 32
     → IsTowards East (get_or points i origin) (get_or points (i + 1) origin)
 straight_east rows size points k i words short far low high =
     let rise = rises_all (column_at points) (length points - 1) k i (gradual_columns rows size points words) (omega (arith, short)) far low high in
     elim (parts_at rows size points i words (omega (arith, short, high))) [ inl up ↦ absurd (omega (arith, up.0, rise)) | inr along ↦ (along.0, rise) ]
 
-pub straight_west : (rows size : ℕ) (points : List Point) (k i : ℕ) → AreWordsFor points rows size → k + 32 < length points → column_at points k ≡ column_at points (k + 32) + 32 → k ≤ i → i < k + 32
+straight_west : (rows size : ℕ) (points : List Point) (k i : ℕ) → AreWordsFor points rows size → k + 32 < length points → column_at points k ≡ column_at points (k + 32) + 32 → k ≤ i → i < k + 32
     → IsTowards West (get_or points i origin) (get_or points (i + 1) origin)
 straight_west rows size points k i words short far low high =
     let fall = falls_all (column_at points) (length points - 1) k i (gradual_columns rows size points words) (omega (arith, short)) far low high in
     elim (parts_at rows size points i words (omega (arith, short, high))) [ inl up ↦ absurd (omega (arith, up.0, fall)) | inr along ↦ (along.0, fall) ]
 
--- ---- what is flipped
+-- the second of two corners is 32 columns or rows from the first one, in a heading
+abbrev pub IsFar : Dir → Point → Point → Type 0
+IsFar North p q = nat_abs q.y ≡ nat_abs p.y + 32
+IsFar East p q = nat_abs q.x ≡ nat_abs p.x + 32
+IsFar South p q = nat_abs p.y ≡ nat_abs q.y + 32
+IsFar West p q = nat_abs p.x ≡ nat_abs q.x + 32
 
-pub flipped_more : (rows : ℕ) (points : List Point) (i j : ℕ) (old words new : List ℕ) → AreFlipped rows points i j old words → j + 1 < length points → length new ≡ length words
-    → ((k u v : ℕ) → k < 2 → has_edge rows new k u v ≡ differ (has_edge rows words k u v) (is_along k u v (line_between (get_or points j origin) (get_or points (j + 1) origin))))
-    → AreFlipped rows points i (j + 1) old new
-flipped_more rows points i j old words new far short same flips =
+-- a stretch of a walk runs straight on with a heading
+pub record IsRun (heading : Dir) (points : List Point) (from to : ℕ) : Type 0 where
+  pub end : to ≡ from + 32
+  pub short : from + 32 < length points
+  pub straight : (i : ℕ) → from ≤ i → i < from + 32 → IsTowards heading (get_or points i origin) (get_or points (i + 1) origin)
+
+-- the ends of a stretch tell whether it does
+pub run_of : (heading : Dir) (rows size : ℕ) (points : List Point) (from to : ℕ) → AreWordsFor points rows size → (from ≤ to) × (to ≤ from + 32) × (to < length points)
+    → IsFar heading (get_or points from origin) (get_or points to origin) → IsRun heading points from to
+run_of North rows size points from to words order far =
+    let end : to ≡ from + 32 = far_rows rows size points from to words order.0 order.2 order.1 (inl far) in
+    let short : from + 32 < length points = subst (λ j. j < length points) end order.2 in
+    record { end = end; short = short; straight = λ i low high. straight_north rows size points from i words short (subst (λ j. row_at points j ≡ row_at points from + 32) end far) low high }
+run_of South rows size points from to words order far =
+    let end : to ≡ from + 32 = far_rows rows size points from to words order.0 order.2 order.1 (inr far) in
+    let short : from + 32 < length points = subst (λ j. j < length points) end order.2 in
+    record { end = end; short = short; straight = λ i low high. straight_south rows size points from i words short (subst (λ j. row_at points from ≡ row_at points j + 32) end far) low high }
+run_of East rows size points from to words order far =
+    let end : to ≡ from + 32 = far_columns rows size points from to words order.0 order.2 order.1 (inl far) in
+    let short : from + 32 < length points = subst (λ j. j < length points) end order.2 in
+    record { end = end; short = short; straight = λ i low high. straight_east rows size points from i words short (subst (λ j. column_at points j ≡ column_at points from + 32) end far) low high }
+run_of West rows size points from to words order far =
+    let end : to ≡ from + 32 = far_columns rows size points from to words order.0 order.2 order.1 (inr far) in
+    let short : from + 32 < length points = subst (λ j. j < length points) end order.2 in
+    record { end = end; short = short; straight = λ i low high. straight_west rows size points from i words short (subst (λ j. column_at points from ≡ column_at points j + 32) end far) low high }
+
+-- ---- what is taken away
+
+is_along_any-cons : (line : GridEdge) (lines : List GridEdge) (k u v : ℕ) → is_along_any (line ∷ lines) k u v ≡ is_along k u v line || is_along_any lines k u v
+is_along_any-cons line lines k u v =
+    ap (nat_lt 0) (sum_by-cons (λ l. cond (is_along k u v l) 1 0) line lines) ∙ one_or_more (is_along k u v line) (count_by (is_along k u v) lines)
+  where
+    one_or_more : (b : Bool) (n : ℕ) → nat_lt 0 (cond b 1 0 + n) ≡ b || nat_lt 0 n
+    one_or_more true n = grind (arith, nat_tests)
+    one_or_more false n = ap (nat_lt 0) (omega arith)
+
+neither : (edge a b : Bool) → (edge && not a) && not b ≡ edge && not (a || b)
+neither true true b = refl
+neither true false b = refl
+neither false a b = refl
+
+pub taken_more : (rows : ℕ) (starts : List ℕ) (points : List Point) (i j : ℕ) (old words new : List ℕ) → AreTaken rows starts points i j old words → j + 1 < length points
+    → AreTakenBy rows starts (λ k u v. is_along k u v (line_between (get_or points j origin) (get_or points (j + 1) origin))) words new
+    → AreTaken rows starts points i (j + 1) old new
+taken_more rows starts points i j old words new far short now =
     record {
-      count = same ∙ far.count;
+      blocks = now.blocks;
       edges = λ k u v p.
-          let along = is_along k u v in
           let line = line_between (get_or points j origin) (get_or points (j + 1) origin) in
           let after = lines_from points (j + 1) in
-          let now = has_edge rows words k u v in
-          ap (differ (has_edge rows new k u v)) (is_odd-count along after)
-          ∙ ap (λ t. differ t (odd_by along after)) (flips k u v p)
-          ∙ differ_assoc now (along line) (odd_by along after)
-          ∙ ap (λ ls. differ now (odd_by along ls)) (sym (lines_to-drop (get_or points 0 origin) (get_or points j origin) points (j + 1) origin short))
-          ∙ ap (differ now) (sym (is_odd-count along (lines_from points j)))
+          let edge = has_edge rows (spread starts words) k u v in
+          ap (λ t. t && not (is_along_any after k u v)) (now.edges k u v p)
+          ∙ neither edge (is_along k u v line) (is_along_any after k u v)
+          ∙ ap (λ t. edge && not t) (sym (is_along_any-cons line after k u v))
+          ∙ ap (λ ls. edge && not (is_along_any ls k u v)) (sym (lines_to-drop (get_or points 0 origin) (get_or points j origin) points (j + 1) origin short))
           ∙ far.edges k u v p;
     }
 
-pub flipped_on : (rows : ℕ) (points : List Point) (i j h : ℕ) (old words new : List ℕ) → AreFlipped rows points i j old words → AreFlipped rows points j h words new → AreFlipped rows points i h old new
-flipped_on rows points i j h old words new far more = record { count = more.count ∙ far.count; edges = λ k u v p. more.edges k u v p ∙ far.edges k u v p }
+pub taken_on : (rows : ℕ) (starts : List ℕ) (points : List Point) (i j h : ℕ) (old words new : List ℕ) → AreTaken rows starts points i j old words → AreTaken rows starts points j h words new → AreTaken rows starts points i h old new
+taken_on rows starts points i j h old words new far more = record { blocks = more.blocks; edges = λ k u v p. more.edges k u v p ∙ far.edges k u v p }
+
+-- nothing is taken away yet
+pub none_taken : (rows : ℕ) (starts : List ℕ) (points : List Point) (i : ℕ) (words : List ℕ) → AreBlocks starts words → AreTaken rows starts points i i words words
+none_taken rows starts points i words blocks = record { blocks = blocks; edges = λ k u v p. refl }
+
+-- the last line goes back to the first corner
+pub all_taken : (rows : ℕ) (starts : List ℕ) (points : List Point) (at last : ℕ) (old words new : List ℕ) → at ≡ last → last + 1 ≡ length points → AreTaken rows starts points 0 at old words
+    → AreTakenBy rows starts (λ k u v. is_along k u v (line_between (get_or points last origin) (get_or points 0 origin))) words new
+    → AreTakenBy rows starts (is_along_any (lines_of points)) old new
+all_taken rows starts points at last old words new here end far now =
+    record {
+      blocks = now.blocks;
+      edges = λ k u v p.
+          let first = get_or points 0 origin in
+          let line = line_between (get_or points last origin) first in
+          let edge = has_edge rows (spread starts words) k u v in
+          now.edges k u v p
+          ∙ ap (λ t. edge && not t) (sym (is_along_any-cons line [] k u v ∙ or_false (is_along k u v line)))
+          ∙ ap (λ ls. edge && not (is_along_any ls k u v)) (sym (ap (λ n. lines_from points n) here ∙ lines_to-end first (get_or points last origin) points (last + 1) (omega (arith, end))))
+          ∙ far.edges k u v p
+          ∙ ap (λ ls. has_edge rows (spread starts old) k u v && not (is_along_any ls k u v)) (sym (lines_of-drop points origin (omega (arith, end))));
+    }
+
+-- another test that says the same
+pub taken_same : (rows : ℕ) (starts : List ℕ) (f g : ℕ → ℕ → ℕ → Bool) (old new : List ℕ) → ((k u v : ℕ) → f k u v ≡ g k u v) → AreTakenBy rows starts f old new → AreTakenBy rows starts g old new
+taken_same rows starts f g old new same taken =
+    record { blocks = taken.blocks; edges = λ k u v p. taken.edges k u v p ∙ ap (λ t. has_edge rows (spread starts old) k u v && not t) (same k u v) }

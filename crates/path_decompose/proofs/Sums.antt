@@ -38,7 +38,7 @@ tally true false h = absurd (let no : true ≡ false = h refl in cc)
 tally false true h = refl
 tally false false h = refl
 
-count_by-map : {A B : Type 0} (f : B → Bool) (g : A → B) (xs : List A) → count_by f (map g xs) ≡ count_by (λ x. f (g x)) xs
+pub count_by-map : {A B : Type 0} (f : B → Bool) (g : A → B) (xs : List A) → count_by f (map g xs) ≡ count_by (λ x. f (g x)) xs
 count_by-map f g [] = refl
 count_by-map f g (x ∷ xs) =
     sum_by-cons (λ y. cond (f y) 1 0) (g x) (map g xs)

@@ -1,5 +1,6 @@
 -- The edges that a path's lines are, and what is left without them.
-use Rattle.std.proofs.Common.{◌≡◌, ℕ, zero, suc, ◌+◌, ◌-◌, ◌*◌, ◌/◌, ◌<◌, ◌≤◌, ℤ, pos, ◌≤ℤ◌, nat_abs, Bool, true, false, ◌&&◌, ◌⊎◌, nat_le, List, [], ◌∷◌, All, length, get_or, count_by, refl, ap, sym, subst, ◌∙◌, inl, inr, arith}
+use Rattle.std.proofs.Common.{◌≡◌, ℕ, zero, suc, ◌+◌, ◌-◌, ◌*◌, ◌/◌, ◌<◌, ◌≤◌, ℤ, pos, ◌≤ℤ◌, nat_abs, Bool, true, false, not, cond, ◌&&◌, ◌⊎◌, nat_le, nat_lt, List, [], ◌∷◌, All, length, get_or, count_by, refl, ap, sym, subst, ◌∙◌, inl, inr, arith}
+use Rattle.std.proofs.Math.Path.{fun_ext}
 use Rattle.std.proofs.lemmas.Int.{ints}
 use Rattle.std.proofs.lemmas.Nat.{mul-le}
 use Rattle.std.proofs.lemmas.Bool.{cases_lt}
@@ -15,18 +16,21 @@ use Rattle.turn_policies.specs.Majority.{behind}
 use Rattle.turn_policies.specs.declared.edge.Edge.{Edge}
 use Rattle.path_decompose.specs.Bounds.{IsCornerOf}
 use Rattle.path_decompose.specs.Decomposition.{inverted}
-use Rattle.path_decompose.specs.GridEdges.{GridEdge, upright, level, same_line}
-use Rattle.path_decompose.specs.Inside.{lines_of, is_odd, inside}
+use Rattle.path_decompose.specs.GridEdges.{GridEdge, upright, level, same_line, is_edge}
+use Rattle.path_decompose.specs.Inside.{lines_of, inside}
 use Rattle.path_decompose.specs.Inner.BoundaryBits.{has_edge, changes, AreEdgesOf, bounded_image, AreEdges, is_along, FitsStrips, AreWalked}
+use Rattle.path_decompose.specs.Inner.Taken.{is_along_any}
 use Rattle.path_decompose.specs.Walk.{first_edge}
 use Rattle.path_decompose.proofs.Bounded.{behind-left, behind-low, changes-down, changes-left, bounded_is, image_of-bounded}
 use Rattle.path_decompose.proofs.Beyond.{fits_differ}
 use Rattle.path_decompose.proofs.ClosedWalk.{closed_walk, corners}
 use Rattle.path_decompose.proofs.Cut.{is_edge-inside_edges}
 use Rattle.path_decompose.proofs.Differ.{differ_swap}
-use Rattle.path_decompose.proofs.EdgeLine.{line_of, inside_edges, odd_by-map}
-use Rattle.path_decompose.proofs.Parity.{odd_by, odd_by-same, is_odd-count}
+use Rattle.path_decompose.proofs.EdgeLine.{line_of, inside_edges}
+use Rattle.path_decompose.proofs.Once.{none_passes, count_by-line, odd_by-no_edge}
+use Rattle.path_decompose.proofs.Parity.{odd_by, odd_by-same}
 use Rattle.path_decompose.proofs.Round.{IsCircuit}
+use Rattle.path_decompose.proofs.Sums.{count_by-map}
 use Rattle.path_decompose.proofs.Walked.{walk_circuit, walk_lines, walk_inside, walk_fits}
 
 odd_by-none : {A : Type 0} (xs : List A) → odd_by (λ x. false) xs ≡ false
@@ -54,56 +58,103 @@ level_along : (x y : ℕ) (l : GridEdge) → same_line (level x y) l ≡ is_alon
 level_along x y (level u v) = grind (arith, nat_tests)
 level_along x y (upright u v) = refl
 
+-- in a margin no line has an edge
+record IsOffPage (b : Image) (k x y : ℕ) : Type 0 where
+  none : (l : GridEdge) → is_along k x y l ≡ false
+  white : changes b k x y ≡ false
+
+-- elsewhere an edge lies along one line alone
+record IsLineAt (b : Image) (k x y : ℕ) (l : GridEdge) : Type 0 where
+  along : (m : GridEdge) → same_line l m ≡ is_along k x y m
+  edge : changes b k x y ≡ is_edge b l
+
+line_here : (b : Image) (k x y : ℕ) → k < 2 → IsOffPage b k x y ⊎ ((l : GridEdge) × IsLineAt b k x y l)
+line_here b zero x y p = elim (cases_lt x 3) [
+  | inl left ↦
+      inl (record {
+        none = λ l. up_out x y l (inl left);
+        white = ap (λ t. differ t (behind b 4 (suc x) y)) (behind-left b x y (omega arith)) ∙ behind-left b (suc x) y (omega arith);
+      })
+  | inr right ↦ elim (cases_lt y 4) [
+    | inl low ↦
+        inl (record {
+          none = λ l. up_out x y l (inr low);
+          white = ap (λ t. differ t (behind b 4 (suc x) y)) (behind-low b x y low) ∙ behind-low b (suc x) y low;
+        })
+    | inr high ↦
+        let u : ℕ = x - 3 in
+        let v : ℕ = y - 4 in
+        let column : x ≡ u + 3 = omega arith in
+        let row : y ≡ suc v + 3 = omega arith in
+        let place : y ≡ v + 4 = omega arith in
+        inr (
+          upright u v,
+          record {
+            along = λ m. up_along u v m ∙ sym (ap (λ n. is_along 0 n y m) column ∙ ap (λ n. is_along 0 (u + 3) n m) place);
+            edge = ap (λ n. changes b 0 n y) column ∙ ap (changes b 0 (u + 3)) row ∙ changes-down b u (suc v);
+          },
+        )
+  ]
+]
+line_here b (suc zero) x y p = elim (cases_lt x 4) [
+  | inl left ↦
+      inl (record {
+        none = λ l. level_out x y l (inl left);
+        white = ap (λ t. differ t (behind b 4 x (suc y))) (behind-left b x y left) ∙ behind-left b x (suc y) left;
+      })
+  | inr right ↦ elim (cases_lt y 3) [
+    | inl low ↦
+        inl (record {
+          none = λ l. level_out x y l (inr low);
+          white = ap (λ t. differ t (behind b 4 x (suc y))) (behind-low b x y (omega arith)) ∙ behind-low b x (suc y) (omega arith);
+        })
+    | inr high ↦
+        let u : ℕ = x - 4 in
+        let v : ℕ = y - 3 in
+        let column : x ≡ suc u + 3 = omega arith in
+        let place : x ≡ u + 4 = omega arith in
+        let row : y ≡ v + 3 = omega arith in
+        inr (
+          level u v,
+          record {
+            along = λ m. level_along u v m ∙ sym (ap (λ n. is_along 1 n y m) place ∙ ap (λ n. is_along 1 (u + 4) n m) row);
+            edge = ap (λ n. changes b 1 n y) column ∙ ap (changes b 1 (suc u + 3)) row ∙ changes-left b (suc u) v;
+          },
+        )
+  ]
+]
+line_here b (suc (suc k)) x y p = absurd (omega arith)
+
 -- the edges of a path's inside are those along its lines
 changes-inside : (b : Image) (policy : Policy) (sign : Sign) (s : Edge) (es : List Edge) → IsCircuit b policy sign s es → (k x y : ℕ) → k < 2
     → changes (inside_edges es) k x y ≡ odd_by (λ e. is_along k x y (line_of e)) es
-changes-inside b policy sign s es c zero x y p =
-    let i : Image = inside_edges es in
-    elim (cases_lt x 3) [
-      | inl left ↦
-          ap (λ t. differ t (behind i 4 (suc x) y)) (behind-left i x y (omega arith)) ∙ behind-left i (suc x) y (omega arith)
-          ∙ sym (none_along 0 x y es (λ l. up_out x y l (inl left)))
-      | inr right ↦ elim (cases_lt y 4) [
-        | inl low ↦
-            ap (λ t. differ t (behind i 4 (suc x) y)) (behind-low i x y low) ∙ behind-low i (suc x) y low
-            ∙ sym (none_along 0 x y es (λ l. up_out x y l (inr low)))
-        | inr high ↦
-            let u : ℕ = x - 3 in
-            let v : ℕ = y - 4 in
-            let column : x ≡ u + 3 = omega arith in
-            let row : y ≡ suc v + 3 = omega arith in
-            let place : suc v + 3 ≡ v + 4 = omega arith in
-            ap (λ n. changes i 0 n y) column ∙ ap (changes i 0 (u + 3)) row
-            ∙ changes-down i u (suc v)
-            ∙ is_edge-inside_edges b policy sign s es c.boundary c.closes (upright u v)
-            ∙ odd_by-same (λ e. same_line (upright u v) (line_of e)) (λ e. is_along 0 (u + 3) (v + 4) (line_of e)) (λ e. up_along u v (line_of e)) es
-            ∙ sym (ap (λ n. odd_by (λ e. is_along 0 n y (line_of e)) es) column ∙ ap (λ n. odd_by (λ e. is_along 0 (u + 3) n (line_of e)) es) (row ∙ place))
-      ]
-    ]
-changes-inside b policy sign s es c (suc zero) x y p =
-    let i : Image = inside_edges es in
-    elim (cases_lt x 4) [
-      | inl left ↦
-          ap (λ t. differ t (behind i 4 x (suc y))) (behind-left i x y left) ∙ behind-left i x (suc y) left
-          ∙ sym (none_along 1 x y es (λ l. level_out x y l (inl left)))
-      | inr right ↦ elim (cases_lt y 3) [
-        | inl low ↦
-            ap (λ t. differ t (behind i 4 x (suc y))) (behind-low i x y (omega arith)) ∙ behind-low i x (suc y) (omega arith)
-            ∙ sym (none_along 1 x y es (λ l. level_out x y l (inr low)))
-        | inr high ↦
-            let u : ℕ = x - 4 in
-            let v : ℕ = y - 3 in
-            let column : x ≡ suc u + 3 = omega arith in
-            let row : y ≡ v + 3 = omega arith in
-            let place : suc u + 3 ≡ u + 4 = omega arith in
-            ap (λ n. changes i 1 n y) column ∙ ap (changes i 1 (suc u + 3)) row
-            ∙ changes-left i (suc u) v
-            ∙ is_edge-inside_edges b policy sign s es c.boundary c.closes (level u v)
-            ∙ odd_by-same (λ e. same_line (level u v) (line_of e)) (λ e. is_along 1 (u + 4) (v + 3) (line_of e)) (λ e. level_along u v (line_of e)) es
-            ∙ sym (ap (λ n. odd_by (λ e. is_along 1 n y (line_of e)) es) (column ∙ place) ∙ ap (λ n. odd_by (λ e. is_along 1 (u + 4) n (line_of e)) es) row)
-      ]
-    ]
-changes-inside b policy sign s es c (suc (suc k)) x y p = absurd (omega arith)
+changes-inside b policy sign s es c k x y p = elim (line_here (inside_edges es) k x y p) [
+  | inl off ↦ off.white ∙ sym (none_along k x y es off.none)
+  | inr line ↦
+      line.1.edge
+      ∙ is_edge-inside_edges b policy sign s es c.boundary c.closes line.0
+      ∙ odd_by-same (λ e. same_line line.0 (line_of e)) (λ e. is_along k x y (line_of e)) (λ e. line.1.along (line_of e)) es
+]
+
+-- an edge along a path's lines is there, and along one of them alone
+along_once : (b : Image) (policy : Policy) (sign : Sign) (s : Edge) (es : List Edge) → IsCircuit b policy sign s es → (k x y : ℕ) → k < 2
+    → let along : Edge → Bool = λ e. is_along k x y (line_of e) in (count_by along es ≡ cond (odd_by along es) 1 0) × (changes b k x y ≡ false → odd_by along es ≡ false)
+along_once b policy sign s es c k x y p = elim (line_here b k x y p) [
+  | inl off ↦
+      let none = none_passes (λ e. is_along k x y (line_of e)) es (λ i d below. off.none (line_of (get_or es i d))) in
+      (none.1 ∙ sym (ap (λ t. cond t 1 0) none.0), λ _. none.0)
+  | inr line ↦
+      let same : (λ (e : Edge). same_line line.0 (line_of e)) ≡ (λ (e : Edge). is_along k x y (line_of e)) = fun_ext (λ e. line.1.along (line_of e)) in
+      subst (λ f. (count_by f es ≡ cond (odd_by f es) 1 0) × (changes b k x y ≡ false → odd_by f es ≡ false)) same
+      (count_by-line b policy sign s es c line.0, λ white. odd_by-no_edge b policy sign s es c line.0 (sym line.1.edge ∙ white))
+]
+
+-- so it is taken away where it is turned
+taken_is : (edge odd : Bool) (count : ℕ) → count ≡ cond odd 1 0 → (edge ≡ false → odd ≡ false) → edge && not (nat_lt 0 count) ≡ differ edge odd
+taken_is true true count is there = rw is refl
+taken_is true false count is there = rw is refl
+taken_is false true count is there = absurd (let no : true ≡ false = there refl in cc)
+taken_is false false count is there = refl
 
 -- ---- what is left
 
@@ -126,30 +177,32 @@ changes-differ b i (suc k) x y =
 
 -- without the edges along a path's lines, those of the image inverted inside it are left
 pub edges_left : (b : Image) (rows : ℕ) (old new : List ℕ) (points : List Point) → AreWalked b points → AreEdgesOf b rows old
-    → ((k x y : ℕ) → k < 2 → has_edge rows new k x y ≡ differ (has_edge rows old k x y) (is_odd (count_by (is_along k x y) (lines_of points)))) → AreEdgesOf (inverted b points) rows new
-edges_left b rows old new points w edges flipped k x y p =
+    → ((k x y : ℕ) → k < 2 → has_edge rows new k x y ≡ has_edge rows old k x y && not (is_along_any (lines_of points) k x y)) → AreEdgesOf (inverted b points) rows new
+edges_left b rows old new points w edges taken k x y p =
     let c = walk_circuit b w.policy w.sign w.x w.y points w.first w.walk in
     let es : List Edge = w.walk.edges in
-    let along : is_odd (count_by (is_along k x y) (lines_of points)) ≡ changes (inside points) k x y =
-    is_odd-count (is_along k x y) (lines_of points)
-    ∙ ap (odd_by (is_along k x y)) (walk_lines b w.policy w.sign w.x w.y points w.first w.walk)
-    ∙ odd_by-map (is_along k x y) line_of es
-    ∙ sym (changes-inside b w.policy w.sign (first_edge w.x w.y) es c k x y p)
+    let along : Edge → Bool = λ e. is_along k x y (line_of e) in
+    let once = along_once b w.policy w.sign (first_edge w.x w.y) es c k x y p in
+    let count : count_by (is_along k x y) (lines_of points) ≡ count_by along es =
+    ap (count_by (is_along k x y)) (walk_lines b w.policy w.sign w.x w.y points w.first w.walk) ∙ count_by-map (is_along k x y) line_of es in
+    let inside_changes : odd_by along es ≡ changes (inside points) k x y =
+    sym (changes-inside b w.policy w.sign (first_edge w.x w.y) es c k x y p)
     ∙ ap (λ i. changes i k x y) (sym (walk_inside b w.policy w.sign w.x w.y points w.first w.walk)) in
-    flipped k x y p
-    ∙ ap (λ t. differ t (is_odd (count_by (is_along k x y) (lines_of points)))) (edges k x y p)
-    ∙ ap (differ (changes b k x y)) along
+    taken k x y p
+    ∙ ap (λ t. t && not (is_along_any (lines_of points) k x y)) (edges k x y p)
+    ∙ taken_is (changes b k x y) (odd_by along es) (count_by (is_along k x y) (lines_of points)) (count ∙ once.0) once.1
+    ∙ ap (differ (changes b k x y)) inside_changes
     ∙ sym (changes-differ b (inside points) k x y)
 
 -- so the words are those of a page again
 pub left_page : (w h rows strips : ℕ) (old new : List ℕ) (page : Page) (points : List Point) → AreEdges w h rows strips old → page_of w h (bounded_image rows old) ≡ page → length new ≡ length old → AreWalked (image_of page) points
-    → ((k x y : ℕ) → k < 2 → has_edge rows new k x y ≡ differ (has_edge rows old k x y) (is_odd (count_by (is_along k x y) (lines_of points))))
+    → ((k x y : ℕ) → k < 2 → has_edge rows new k x y ≡ has_edge rows old k x y && not (is_along_any (lines_of points) k x y))
     → AreEdges w h rows strips new × SameSides page (page_of w h (bounded_image rows new)) × ((u v : ℕ) → image_of (page_of w h (bounded_image rows new)) u v ≡ inverted (image_of page) points u v)
-left_page w h rows strips old new page points a is size walked flipped =
+left_page w h rows strips old new page points a is size walked taken =
     let shown : image_of page ≡ bounded_image rows old = ap image_of (sym is) ∙ image_of-bounded w h (bounded_image rows old) a.fits in
     let b : Image = image_of page in
     let edges : AreEdgesOf b rows old = subst (λ i. AreEdgesOf i rows old) (sym shown) a.edges in
-    let left : AreEdgesOf (inverted b points) rows new = edges_left b rows old new points walked edges flipped in
+    let left : AreEdgesOf (inverted b points) rows new = edges_left b rows old new points walked edges taken in
     let image : bounded_image rows new ≡ inverted b points = bounded_is (inverted b points) rows new left in
     let fits : Fits b w h = subst (λ i. Fits i w h) (sym shown) a.fits in
     let still : Fits (inverted b points) w h = fits_differ b (inside points) w h fits (walk_fits b walked.policy walked.sign walked.x walked.y points w h walked.first walked.walk fits) in
@@ -170,7 +223,7 @@ left_page w h rows strips old new page points a is size walked flipped =
     )
 
 -- a corner of the page has room
-room_of : (w h rows strips size : ℕ) (p : Point) → w ≤ LONGEST_SIDE → h ≤ LONGEST_SIDE → rows ≡ h + 8 → strips ≡ w / 64 + 2 → size ≡ 2 * (strips * rows) → IsCornerOf w h p → FitsStrips rows size p
+room_of : (w h rows strips size : ℕ) (p : Point) → w ≤ LONGEST_SIDE → h ≤ LONGEST_SIDE → rows ≡ 8 * (h / 8 + 2) → strips ≡ w / 64 + 2 → size ≡ 2 * (strips * rows) → IsCornerOf w h p → FitsStrips rows size p
 room_of w h rows strips size p narrow low row_count strip_count words corner =
     let x : nat_abs p.x ≤ w = natural p.x w corner.from_left corner.to_right in
     let y : nat_abs p.y ≤ h = natural p.y h corner.from_bottom corner.to_top in

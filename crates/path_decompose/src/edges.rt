@@ -1,20 +1,17 @@
 //! The boundary edges that are left of a page, and so the image that is left.
-ghost use Rattle.std.specs.Prelude.{◌≡◌, ◌≢◌, ℕ, suc, ◌+◌, ◌-◌, ◌*◌, ◌/◌, ◌≤◌, ◌<◌, ◌^◌, ◌&&◌, nat_abs, nat_le, true, false, length, IfOk, IsNone, IfSome, ◌↔◌, All, count_by};
+ghost use Rattle.std.specs.Prelude.{◌≡◌, ℕ, suc, ◌+◌, ◌-◌, ◌*◌, ◌/◌, ◌≤◌, ◌<◌, ◌^◌, ◌&&◌, nat_le, true, false, length, IfOk, OnOk, IsNone, IfSome, ◌↔◌};
 ghost use Rattle.bit_image.specs.FirstBlack.{IsFirstBlackFrom};
 ghost use Rattle.bit_image.specs.Image.{Fits, IsWhiteTo, differ, south_west};
 ghost use Rattle.bit_image.specs.Page.{IsPage, SameSides, image_of, page_of};
 ghost use Rattle.bit_image.specs.Inner.Words.{black_in};
 ghost use Rattle.turn_policies.specs.Inner.Square.{IsSquare};
-ghost use Rattle.path_decompose.specs.Inner.BoundaryBits.{has_edge, changes, AreEdgesOf, AreWalked, FitsStrips, IsSpot, is_along};
+ghost use Rattle.path_decompose.specs.Inner.BoundaryBits.{has_edge, changes, AreEdgesOf, AreWalked};
 ghost use Rattle.path_decompose.specs.Decomposition.{inverted};
-ghost use Rattle.path_decompose.specs.Inside.{line_between, lines_of, is_odd};
-ghost use Rattle.pt_core.specs.ClosedWalk.{IsUnitStep, IsClosedWalk};
 
-use crate::flipping::flip_path;
+use crate::blocks::Blocks;
 use crate::square::relative_square;
-use crate::strips::{
-    self, DOWN, LEFT, Spot, flip, spot_above, spot_at, spot_below, spot_left, spot_right,
-};
+use crate::strips::{self, BLOCK_ROWS, DOWN, LEFT};
+use crate::taking::take_path;
 use bit_image::Bitmap;
 use pt_core::{NoMemory, Point};
 use std::alloc::Global;
@@ -23,8 +20,8 @@ use std::marker::Model;
 /// How many columns and rows without edges lie before those of a page's first corners.
 pub(crate) const MARGIN: u32 = 3;
 
-/// How many rows of corners the strips have beside the page's rows.
-const ROWS_BESIDE: usize = 8;
+/// How many blocks a strip has beside those that the page's rows fill.
+const BLOCKS_BESIDE: usize = 2;
 
 /// How many strips there are beside those that the page's columns fill.
 const STRIPS_BESIDE: usize = 2;
@@ -40,7 +37,7 @@ pub(crate) struct Edges {
     height: u32,
     rows: usize,
     strips: usize,
-    words: Vec<u64>,
+    words: Blocks,
 }
 
 impl Model for Edges {
@@ -49,9 +46,9 @@ impl Model for Edges {
 
     ghost Value = { Page };
 
-    ghost view = { λ a. page_of a.width a.height (bounded_image a.rows a.words.items) };
+    ghost view = { λ a. page_of a.width a.height (bounded_image a.rows a.words) };
 
-    ghost invariant = { λ a. AreEdges a.width a.height a.rows a.strips a.words.items };
+    ghost invariant = { λ a. AreEdges a.width a.height a.rows a.strips a.words };
 }
 
 impl Edges {
@@ -60,11 +57,12 @@ impl Edges {
         ensures { IfOk result (λ edges. edges ≡ page.now) }
     {
         let (width, height) = (page.width(), page.height());
-        let rows = height as usize + ROWS_BESIDE;
+        let blocks = height as usize / BLOCK_ROWS + BLOCKS_BESIDE;
+        let rows = BLOCK_ROWS * blocks;
         let strips = width as usize / 64 + STRIPS_BESIDE;
-        let mut words = vec![in alloc; 0u64; 2 * (strips * rows)]?;
+        let mut words = Blocks::white(alloc, strips * blocks)?;
         let white = vec![in alloc; 0u64; (width as usize + 63) / 64]?;
-        put_page(&mut words, rows, page, &white);
+        put_page(&mut words, rows, page, &white)?;
         Ok(Edges {
             width,
             height,
@@ -172,19 +170,19 @@ impl Edges {
         ensures pixels { (u v : ℕ)
             → image_of self.new u v ≡ inverted (image_of self.old) points.now u v }
     {
-        flip_path(&mut self.words, self.rows, points);
+        take_path(&mut self.words, self.rows, points);
     }
 }
 
 /// Puts the edges of a page into words that have none.
-fn put_page(words: &mut [u64], rows: usize, page: &Bitmap, white: &[u64])
-    requires rows { rows ≡ page.now.height + ROWS_BESIDE }
+fn put_page(words: &mut Blocks, rows: usize, page: &Bitmap, white: &[u64]) -> Result<(), NoMemory>
+    requires rows { rows ≡ BLOCK_ROWS * (page.now.height / BLOCK_ROWS + BLOCKS_BESIDE) }
     requires room { length words.old ≡ 2 * ((page.now.width / 64 + STRIPS_BESIDE) * rows) }
     requires count { length white.now ≡ (page.now.width + 63) / 64 }
     requires white { (u : ℕ) → black_in white.now u ≡ false }
     requires none { (k u v : ℕ) → k < 2 → has_edge rows words.old k u v ≡ false }
-    ensures length { length words.new ≡ length words.old }
-    ensures edges { AreEdgesOf (image_of page.now) rows words.new }
+    ensures length { OnOk result (length words.new ≡ length words.old) }
+    ensures edges { OnOk result (AreEdgesOf (image_of page.now) rows words.new) }
 {
     // Between two white rows there are no edges: most pages of text have many such rows.
     let mut below_is_white = true;
@@ -192,10 +190,11 @@ fn put_page(words: &mut [u64], rows: usize, page: &Bitmap, white: &[u64])
         let above = row_behind(page, y + 1, white);
         let above_is_white = strips::is_white(above);
         if !(below_is_white && above_is_white) {
-            strips::put_row(words, rows, y as usize, row_behind(page, y, white), above);
+            strips::put_row(words, rows, y as usize, row_behind(page, y, white), above)?;
         }
         below_is_white = above_is_white;
     }
+    Ok(())
 }
 
 /// The row of pixels 4 rows below row `y`, which is white where the page has none.

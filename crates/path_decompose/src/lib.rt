@@ -17,16 +17,17 @@
 //! ```
 #![tactic(auto)]
 
+mod blocks;
 mod corner;
 pub mod decomposition;
 mod edges;
-mod flipping;
 pub mod interior;
 pub mod laws;
 pub mod line;
 pub mod speckle;
 mod square;
 mod strips;
+mod taking;
 mod trail;
 mod walk;
 

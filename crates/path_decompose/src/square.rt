@@ -5,13 +5,14 @@ ghost use Rattle.bit_image.specs.Words.{is_one};
 ghost use Rattle.turn_policies.specs.Majority.{behind};
 ghost use Rattle.path_decompose.specs.Inner.BoundaryBits.{AreEdgesOf};
 
+use crate::blocks::Blocks;
 use crate::strips::{LEFT, eight, has_edge};
 
 /// Which of the 64 pixels around a corner differ from the leftmost one of the lowest row: bits 0 to 7 are that row from
 /// the left, bits 8 to 15 the next one, and so on.
 //
 // The edges that go left from the corners of one column tell where a row begins otherwise than the one below it.
-pub(crate) fn relative_square(words: &[u64], rows: usize, x: u32, y: u32) -> u64
+pub(crate) fn relative_square(words: &Blocks, rows: usize, x: u32, y: u32) -> u64
     requires rows { rows < 2 ^ 16 }
     requires x { x < 2 ^ 15 }
     requires y { y + 8 ≤ rows }

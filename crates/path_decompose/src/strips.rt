@@ -1,18 +1,26 @@
 //! Bits for the edges around the corners of a page: strips of 64 columns, with a word for each row from the lowest up.
 //!
 //! A word has the edges that go down from 64 corners side by side, and the next word those that go left. The least
-//! significant bit is the leftmost one. So what lies above and below an edge is near it in memory too.
-ghost use Rattle.std.specs.Prelude.{◌≡◌, ◌≢◌, ◌⊎◌, ◌↔◌, IsNone, IfSome, IsTrue, true, ℕ, suc, ◌+◌, ◌-◌, ◌*◌, ◌/◌, ◌%◌, ◌^◌, ◌≤◌, ◌<◌, Bool, false, cond, ◌&&◌, nat_eq, List, ◌∷◌, length, slice_index_or};
-ghost use Rattle.bit_image.specs.Image.{differ};
+//! significant bit is the leftmost one. So what lies above and below an edge is near it in memory too. Eight rows of a
+//! strip are a block of words, which takes room only where there are edges.
+ghost use Rattle.std.specs.Prelude.{◌≡◌, ◌≢◌, ◌⊎◌, ◌↔◌, IsNone, IfSome, IsTrue, true, ℕ, ◌+◌, ◌-◌, ◌*◌, ◌/◌, ◌%◌, ◌^◌, ◌≤◌, ◌<◌, false, cond, List, ◌∷◌, length, slice_index_or, OnOk};
 ghost use Rattle.bit_image.specs.Words.{is_one};
 ghost use Rattle.bit_image.specs.Inner.Words.{black_in};
-ghost use Rattle.path_decompose.specs.Inner.BoundaryBits.{word_place, has_edge, IsSpot, AreStripWords, changes_in, same_edge};
+ghost use Rattle.path_decompose.specs.Inner.Blocks.{AreBlocks};
+ghost use Rattle.path_decompose.specs.Inner.BoundaryBits.{word_place, has_edge, HasSpot, IsSpot, AreStripWords, changes_in, same_edge};
+ghost use Rattle.path_decompose.specs.Inner.Taken.{AreTakenBy};
+
+use crate::blocks::{BLOCK, Blocks};
+use pt_core::NoMemory;
 
 /// The kind of the edges that go down from a corner.
 pub(crate) const DOWN: usize = 0;
 
 /// The kind of the edges that go left from a corner.
 pub(crate) const LEFT: usize = 1;
+
+/// How many rows of a strip are a block.
+pub(crate) const BLOCK_ROWS: usize = 8;
 
 /// Where the word stands that has the edges of a kind in one row of a strip.
 #[inline(always)]
@@ -29,7 +37,7 @@ fn word_place(rows: usize, kind: usize, strip: usize, y: usize) -> usize
 
 /// Whether there is an edge of a kind in a column and a row.
 #[inline(always)]
-pub(crate) fn has_edge(words: &[u64], rows: usize, kind: usize, x: u32, y: u32) -> bool
+pub(crate) fn has_edge(words: &Blocks, rows: usize, kind: usize, x: u32, y: u32) -> bool
     requires kind { kind < 2 }
     requires rows { rows < 2 ^ 16 }
     requires y { y < rows }
@@ -37,51 +45,78 @@ pub(crate) fn has_edge(words: &[u64], rows: usize, kind: usize, x: u32, y: u32) 
     requires room { 2 * ((x / 64 + 1) * rows) ≤ length words.now }
     ensures { result ≡ has_edge rows words.now kind x y }
 {
-    words[word_place(rows, kind, x as usize / 64, y as usize)] >> (x % 64) & 1 == 1
+    words.get(word_place(rows, kind, x as usize / 64, y as usize)) >> (x % 64) & 1 == 1
 }
 
-/// Where the edges of a corner stand in the words.
+/// Where the edges of a corner stand among the words that take room.
 #[derive(Clone, Copy)]
 pub(crate) struct Spot {
+    /// Their block.
+    block: usize,
     /// The place of the word with the edge that goes down. The edge that goes left is in the next one.
     down: usize,
     /// A word in which only their bit is 1.
     bit: u64,
 }
 
-/// Where the edges in column `x` and row `y` stand.
+/// Where the edges in column `x` and row `y` stand, by the starts of the blocks.
 #[inline(always)]
-pub(crate) fn spot_at(rows: usize, x: u32, y: u32) -> Spot
-    requires { rows < 2 ^ 16 }
-    ensures { IsSpot rows x y result }
+pub(crate) fn spot_at(starts: &[u32], rows: usize, x: u32, y: u32) -> Spot
+    requires { HasSpot rows starts.now x y }
+    ensures { IsSpot rows starts.now x y result }
 {
+    let place = word_place(rows, DOWN, x as usize / 64, y as usize);
+    let block = place / BLOCK;
     Spot {
-        down: 2 * (x as usize / 64 * rows + y as usize),
+        block,
+        down: starts[block] as usize + place % BLOCK,
         bit: 1u64 << (x % 64),
     }
 }
 
-/// Where those of the row above stand.
+/// Where those of the row above row `y` stand, by where those of the row itself do.
+//
+// In most rows they are the next two words of the same block, and else the first two of the next one. The rows, the
+// column and the row are given for the proof alone.
 #[inline(always)]
-pub(crate) fn spot_above(spot: Spot) -> Spot
-    requires { spot.down + 2 < 2 ^ 64 }
-    ensures { (rows x y : ℕ) → IsSpot rows x y spot → IsSpot rows x (y + 1) result }
+pub(crate) fn spot_above(spot: Spot, starts: &[u32], rows: usize, x: u32, y: u32) -> Spot
+    requires above { HasSpot rows starts.now x (y + 1) }
+    requires spot { IsSpot rows starts.now x y spot }
+    ensures { IsSpot rows starts.now x (y + 1) result }
 {
-    Spot {
-        down: spot.down + 2,
-        ..spot
+    let down = spot.down + 2;
+    if down % BLOCK != 0 {
+        Spot { down, ..spot }
+    } else {
+        let block = spot.block + 1;
+        Spot {
+            block,
+            down: starts[block] as usize,
+            ..spot
+        }
     }
 }
 
-/// Where those of the row below stand.
+/// And where those of the row below stand.
 #[inline(always)]
-pub(crate) fn spot_below(spot: Spot) -> Spot
-    requires { 2 ≤ spot.down }
-    ensures { (rows x y : ℕ) → IsSpot rows x (y + 1) spot → IsSpot rows x y result }
+pub(crate) fn spot_below(spot: Spot, starts: &[u32], rows: usize, x: u32, y: u32) -> Spot
+    requires row { 1 ≤ y }
+    requires below { HasSpot rows starts.now x (y - 1) }
+    requires spot { IsSpot rows starts.now x y spot }
+    ensures { IsSpot rows starts.now x (y - 1) result }
 {
-    Spot {
-        down: spot.down - 2,
-        ..spot
+    if spot.down % BLOCK != 0 {
+        Spot {
+            down: spot.down - 2,
+            ..spot
+        }
+    } else {
+        let block = spot.block - 1;
+        Spot {
+            block,
+            down: starts[block] as usize + (BLOCK - 2),
+            ..spot
+        }
     }
 }
 
@@ -89,122 +124,137 @@ pub(crate) fn spot_below(spot: Spot) -> Spot
 //
 // In most columns it is the next bit of the same word.
 #[inline(always)]
-pub(crate) fn spot_right(spot: Spot, rows: usize, x: u32, y: u32) -> Spot
-    requires rows { rows < 2 ^ 16 }
-    requires column { x + 1 < 2 ^ 32 }
-    requires spot { IsSpot rows x y spot }
-    ensures { IsSpot rows (x + 1) y result }
+pub(crate) fn spot_right(spot: Spot, starts: &[u32], rows: usize, x: u32, y: u32) -> Spot
+    requires right { HasSpot rows starts.now (x + 1) y }
+    requires spot { IsSpot rows starts.now x y spot }
+    ensures { IsSpot rows starts.now (x + 1) y result }
 {
     let bit = spot.bit << 1;
     if bit != 0 {
         Spot { bit, ..spot }
     } else {
-        spot_at(rows, x + 1, y)
+        spot_at(starts, rows, x + 1, y)
     }
 }
 
 /// And where those left of it stand.
 #[inline(always)]
-pub(crate) fn spot_left(spot: Spot, rows: usize, x: u32, y: u32) -> Spot
-    requires rows { rows < 2 ^ 16 }
+pub(crate) fn spot_left(spot: Spot, starts: &[u32], rows: usize, x: u32, y: u32) -> Spot
     requires column { 1 ≤ x }
-    requires spot { IsSpot rows x y spot }
-    ensures { IsSpot rows (x - 1) y result }
+    requires left { HasSpot rows starts.now (x - 1) y }
+    requires spot { IsSpot rows starts.now x y spot }
+    ensures { IsSpot rows starts.now (x - 1) y result }
 {
     let bit = spot.bit >> 1;
     if bit != 0 {
         Spot { bit, ..spot }
     } else {
-        spot_at(rows, x - 1, y)
+        spot_at(starts, rows, x - 1, y)
     }
 }
 
-/// Adds a corner's edge of a kind, or takes it away where it is there.
+/// Takes a corner's edge of a kind away. Where there is none, the words stay as they are, also those that white blocks
+/// share.
 #[inline(always)]
-pub(crate) fn flip(words: &mut [u64], spot: Spot, kind: usize)
+pub(crate) fn take_edge(words: &mut [u64], spot: Spot, kind: usize)
     requires { spot.down + kind < length words.old }
-    ensures length { length words.new ≡ length words.old }
-    ensures edges { (rows x y : ℕ) → IsSpot rows x y spot → y < rows → kind < 2
-        → (k u v : ℕ) → k < 2 → has_edge rows words.new k u v
-        ≡ differ (has_edge rows words.old k u v) (same_edge kind x y k u v) }
+    ensures { (rows x y : ℕ) (starts : List ℕ) → HasSpot rows starts x y
+        → IsSpot rows starts x y spot → kind < 2 → AreBlocks starts words.old
+        → AreTakenBy rows starts (λ k u v. same_edge kind x y k u v) words.old words.new }
 {
-    words[spot.down + kind] ^= spot.bit;
+    words[spot.down + kind] &= !spot.bit;
 }
 
 /// Puts the edges of a kind into one row of a strip that has none there.
 ///
 /// Most words stay 0, as they are already: these are not written.
 #[inline(always)]
-fn put(words: &mut [u64], rows: usize, kind: usize, strip: usize, y: usize, edges: u64)
+fn put(
+    words: &mut Blocks,
+    rows: usize,
+    kind: usize,
+    strip: usize,
+    y: usize,
+    edges: u64,
+) -> Result<(), NoMemory>
     requires kind { kind < 2 }
     requires strip { strip < 2 ^ 16 }
     requires rows { rows < 2 ^ 16 }
     requires y { y < rows }
     requires room { 2 * ((strip + 1) * rows) ≤ length words.old }
     requires none { (u : ℕ) → u / 64 ≡ strip → has_edge rows words.old kind u y ≡ false }
-    ensures length { length words.new ≡ length words.old }
-    ensures edges { (k u v : ℕ) → k < 2 → has_edge rows words.new k u v
+    ensures length { OnOk result (length words.new ≡ length words.old) }
+    ensures edges { OnOk result ((k u v : ℕ) → k < 2 → has_edge rows words.new k u v
         ≡ cond (same_edge kind strip y k (u / 64) v) (is_one edges (u % 64))
-        (has_edge rows words.old k u v) }
+        (has_edge rows words.old k u v)) }
 {
     if edges != 0 {
-        words[word_place(rows, kind, strip, y)] = edges;
+        words.put(word_place(rows, kind, strip, y), edges)?;
     }
+    Ok(())
 }
 
 /// Puts the edges along a row of pixels, and between it and the row above, into row `y` of the strips, which has none.
-pub(crate) fn put_row(words: &mut [u64], rows: usize, y: usize, below: &[u64], above: &[u64])
+pub(crate) fn put_row(
+    words: &mut Blocks,
+    rows: usize,
+    y: usize,
+    below: &[u64],
+    above: &[u64],
+) -> Result<(), NoMemory>
     requires count { length above.now ≡ length below.now }
     requires few { length below.now < 2 ^ 15 }
     requires rows { rows < 2 ^ 16 }
     requires y { y < rows }
     requires room { 2 * ((length below.now + 1) * rows) ≤ length words.old }
     requires none { (k u : ℕ) → k < 2 → has_edge rows words.old k u y ≡ false }
-    ensures length { length words.new ≡ length words.old }
-    ensures row { (k u : ℕ) → k < 2
-        → has_edge rows words.new k u y ≡ changes_in below.now above.now k u }
-    ensures others { (k u v : ℕ) → k < 2 → v ≢ y
-        → has_edge rows words.new k u v ≡ has_edge rows words.old k u v }
+    ensures length { OnOk result (length words.new ≡ length words.old) }
+    ensures row { OnOk result ((k u : ℕ) → k < 2
+        → has_edge rows words.new k u y ≡ changes_in below.now above.now k u) }
+    ensures others { OnOk result ((k u v : ℕ) → k < 2 → v ≢ y
+        → has_edge rows words.new k u v ≡ has_edge rows words.old k u v) }
 {
     // The words of the strip on the left, which this one's edges need too, are kept and not read again.
     let mut before = (0, 0);
     for strip in 0..below.len() {
         let here = (below[strip], above[strip]);
-        put_strip(words, rows, strip, y, before, here);
+        put_strip(words, rows, strip, y, before, here)?;
         before = here;
     }
-    put_strip(words, rows, below.len(), y, before, (0, 0));
+    put_strip(words, rows, below.len(), y, before, (0, 0))?;
+    Ok(())
 }
 
 /// Puts the edges of one strip of such a row, whose words are those of the row below and of the one above, after the
 /// words of the strip on the left.
 #[inline(always)]
 fn put_strip(
-    words: &mut [u64],
+    words: &mut Blocks,
     rows: usize,
     strip: usize,
     y: usize,
     before: (u64, u64),
     here: (u64, u64),
-)
+) -> Result<(), NoMemory>
     requires strip { strip < 2 ^ 16 }
     requires rows { rows < 2 ^ 16 }
     requires y { y < rows }
     requires room { 2 * ((strip + 1) * rows) ≤ length words.old }
     requires none { (k u : ℕ) → k < 2 → u / 64 ≡ strip → has_edge rows words.old k u y ≡ false }
-    ensures length { length words.new ≡ length words.old }
-    ensures row { (below above : List ℕ)
+    ensures length { OnOk result (length words.new ≡ length words.old) }
+    ensures row { OnOk result ((below above : List ℕ)
         → AreStripWords below strip before.0 here.0 → AreStripWords above strip before.1 here.1
         → (k u : ℕ) → k < 2 → u / 64 ≡ strip
-        → has_edge rows words.new k u y ≡ changes_in below above k u }
-    ensures others { (k u v : ℕ) → k < 2 → (u / 64 ≢ strip) ⊎ (v ≢ y)
-        → has_edge rows words.new k u v ≡ has_edge rows words.old k u v }
+        → has_edge rows words.new k u y ≡ changes_in below above k u) }
+    ensures others { OnOk result ((k u v : ℕ) → k < 2 → (u / 64 ≢ strip) ⊎ (v ≢ y)
+        → has_edge rows words.new k u v ≡ has_edge rows words.old k u v) }
 {
     let pixels = pixels_behind(before.0, here.0, 4);
     let down = pixels ^ pixels_behind(before.0, here.0, 3);
     let left = pixels ^ pixels_behind(before.1, here.1, 4);
-    put(words, rows, DOWN, strip, y, down);
-    put(words, rows, LEFT, strip, y, left);
+    put(words, rows, DOWN, strip, y, down)?;
+    put(words, rows, LEFT, strip, y, left)?;
+    Ok(())
 }
 
 /// The 64 pixels that begin so many columns left of a strip, by its word and the one before it.
@@ -231,8 +281,9 @@ pub(crate) fn is_white(row: &[u64]) -> bool
 }
 
 /// The first column from column `x` on with an edge that goes down in a row.
-pub(crate) fn first_edge(words: &[u64], rows: usize, strips: usize, x: u32, y: u32) -> Option<u32>
+pub(crate) fn first_edge(words: &Blocks, rows: usize, strips: usize, x: u32, y: u32) -> Option<u32>
     requires rows { rows < 2 ^ 16 }
+    requires whole { rows % BLOCK_ROWS ≡ 0 }
     requires strips { strips < 2 ^ 10 }
     requires y { y < rows }
     requires x { x / 64 < strips }
@@ -244,12 +295,12 @@ pub(crate) fn first_edge(words: &[u64], rows: usize, strips: usize, x: u32, y: u
         → has_edge rows words.now DOWN u y ≡ false) }
 {
     let first = x as usize / 64;
-    let word = words[word_place(rows, DOWN, first, y as usize)] & (u64::MAX << (x % 64));
+    let word = down_in(words, rows, first, y as usize) & (u64::MAX << (x % 64));
     if word != 0 {
         return Some(64 * first as u32 + word.trailing_zeros());
     }
     for strip in first + 1..strips {
-        let word = words[word_place(rows, DOWN, strip, y as usize)];
+        let word = down_in(words, rows, strip, y as usize);
         if word != 0 {
             return Some(64 * strip as u32 + word.trailing_zeros());
         }
@@ -257,8 +308,26 @@ pub(crate) fn first_edge(words: &[u64], rows: usize, strips: usize, x: u32, y: u
     None
 }
 
+/// The word with the edges that go down in one row of a strip, where strips are whole blocks.
+//
+// Along a row its place in each block is the same.
+#[inline(always)]
+fn down_in(words: &Blocks, rows: usize, strip: usize, y: usize) -> u64
+    requires rows { rows < 2 ^ 16 }
+    requires whole { rows % BLOCK_ROWS ≡ 0 }
+    requires strip { strip < 2 ^ 16 }
+    requires y { y < rows }
+    requires room { 2 * ((strip + 1) * rows) ≤ length words.now }
+    ensures { result ≡ slice_index_or words.now (word_place rows DOWN strip y) 0 }
+{
+    words.get_in(
+        strip * (rows / BLOCK_ROWS) + y / BLOCK_ROWS,
+        2 * (y % BLOCK_ROWS),
+    )
+}
+
 /// The edges that go down in 8 columns from column `x` on, in bits 0 to 7. What the other bits are isn't told.
-pub(crate) fn eight(words: &[u64], rows: usize, x: u32, y: u32) -> u64
+pub(crate) fn eight(words: &Blocks, rows: usize, x: u32, y: u32) -> u64
     requires rows { rows < 2 ^ 16 }
     requires y { y < rows }
     requires x { x < 2 ^ 16 }
@@ -266,10 +335,10 @@ pub(crate) fn eight(words: &[u64], rows: usize, x: u32, y: u32) -> u64
     ensures { (i : ℕ) → i < 8 → is_one result i ≡ has_edge rows words.now DOWN (x + i) y }
 {
     let (strip, y) = (x as usize / 64, y as usize);
-    let first = words[word_place(rows, DOWN, strip, y)] >> (x % 64);
+    let first = words.get(word_place(rows, DOWN, strip, y)) >> (x % 64);
     if x % 64 <= 56 {
         first
     } else {
-        first | words[word_place(rows, DOWN, strip + 1, y)] << (64 - x % 64)
+        first | words.get(word_place(rows, DOWN, strip + 1, y)) << (64 - x % 64)
     }
 }

@@ -11,10 +11,12 @@ use Rattle.bit_image.specs.Image.{Image, Fits, differ}
 use Rattle.bit_image.specs.Words.{is_one}
 use Rattle.bit_image.specs.Inner.Words.{black_in}
 use Rattle.turn_policies.specs.Majority.{behind}
-use Rattle.path_decompose.specs.declared.edges.TheConstants.{MARGIN, ROWS_BESIDE, STRIPS_BESIDE}
+use Rattle.path_decompose.specs.declared.blocks.TheConstants.{BLOCK}
+use Rattle.path_decompose.specs.declared.edges.TheConstants.{MARGIN, BLOCKS_BESIDE, STRIPS_BESIDE}
 use Rattle.path_decompose.specs.declared.strips.Spot.{Spot}
-use Rattle.path_decompose.specs.declared.strips.TheConstants.{DOWN, LEFT}
+use Rattle.path_decompose.specs.declared.strips.TheConstants.{BLOCK_ROWS, DOWN, LEFT}
 use Rattle.path_decompose.specs.GridEdges.{GridEdge, upright, level}
+use Rattle.path_decompose.specs.Inner.Blocks.{stands_at}
 use Rattle.path_decompose.specs.Walk.{IsBoundaryWalk}
 
 -- where the word stands that has the edges of a kind in one row of a strip of 64 columns
@@ -26,9 +28,18 @@ unfoldable pub has_edge : ℕ → List ℕ → ℕ → ℕ → ℕ → Bool
 has_edge rows words kind x y =
     nat_lt y rows && is_one (slice_index_or words (word_place rows kind (x / 64) y) 0) (x % 64)
 
--- the edges in column x and row y stand in this word and the next one, and in this bit of both
-pub record IsSpot (rows x y : ℕ) (spot : Spot) : Type 0 where
-  pub place : spot.down ≡ word_place rows DOWN (x / 64) y
+-- the blocks that begin at these starts have words for the edges in column x and row y
+pub record HasSpot (rows : ℕ) (starts : List ℕ) (x y : ℕ) : Type 0 where
+  pub few : rows < 2 ^ 16
+  pub column : x < 2 ^ 16
+  pub row : y < rows
+  pub room : 2 * ((x / 64 + 1) * rows) ≤ BLOCK * length starts
+  pub start : (b : ℕ) → slice_index_or starts b 0 % BLOCK ≡ 0
+
+-- the edges in column x and row y stand in this block, in this word and the next one of those that take room, and in this bit of both
+pub record IsSpot (rows : ℕ) (starts : List ℕ) (x y : ℕ) (spot : Spot) : Type 0 where
+  pub block : spot.block ≡ word_place rows DOWN (x / 64) y / BLOCK
+  pub place : spot.down ≡ stands_at starts (word_place rows DOWN (x / 64) y)
   pub bit : (i : ℕ) → i < 64 → is_one spot.bit i ≡ nat_eq (x % 64) i
 
 -- an image changes between a pixel and the next one in its row, or the one above it
@@ -55,7 +66,7 @@ pub record AreEdges (width height rows strips : ℕ) (words : List ℕ) : Type 0
   pub most_width : width ≤ LONGEST_SIDE
   pub some_height : 1 ≤ height
   pub most_height : height ≤ LONGEST_SIDE
-  pub row_count : rows ≡ height + ROWS_BESIDE
+  pub row_count : rows ≡ BLOCK_ROWS * (height / BLOCK_ROWS + BLOCKS_BESIDE)
   pub strip_count : strips ≡ width / 64 + STRIPS_BESIDE
   pub word_count : length words ≡ 2 * (strips * rows)
   pub fits : Fits (bounded_image rows words) width height

@@ -1,5 +1,5 @@
 -- The first word without the bits before the column, and the words of the strips behind it.
-use Rattle.std.proofs.Common.{◌*◌, ◌/◌, ◌%◌, ◌-◌, ◌∙◌, length, refl, ap, inl, inr, arith}
+use Rattle.std.proofs.Common.{◌*◌, ◌/◌, ◌%◌, ◌-◌, length, refl, ap, inl, inr, ◌∙◌, arith}
 use Rattle.std.proofs.lemmas.Bool.{cases_lt}
 use Rattle.bit_image.specs.Words.{is_one}
 use Rattle.bit_image.proofs.Bits.{is_one-zero}
@@ -9,35 +9,34 @@ use Rattle.path_decompose.proofs.strips.first_edge.Goals as goal
 pub returns-then-word-ne0-clause-edge : goal.returns-then-word-ne0-clause-edge
 returns-then-word-ne0-clause-edge c =
     let x = c.args.x in
-    let found = edge_found c.args.rows c.args.words.now (x / 64) (x % 64) _ c.args.y c.word_place.result c.requires.y c.word_place.ensures.value
-    (lowest_from _ (x % 64) _ refl (omega arith) (omega arith) (c.type_inv.words c.word_place.result).fits) in
+    let word = c.down_in.result in
+    let found = edge_found c.args.rows c.args.words.now (x / 64) (x % 64) _ c.args.y word c.requires.y c.down_in.ensures (lowest_from word (x % 64) _ refl (omega arith) (omega arith) (omega arith)) in
     (omega (arith, found.0), found.1)
 
 pub returns-then-word-ne0-clause-left : goal.returns-then-word-ne0-clause-left
 returns-then-word-ne0-clause-left c = λ u right left.
     let x = c.args.x in
-    let found = edge_found c.args.rows c.args.words.now (x / 64) (x % 64) _ c.args.y c.word_place.result c.requires.y c.word_place.ensures.value
-    (lowest_from _ (x % 64) _ refl (omega arith) (omega arith) (c.type_inv.words c.word_place.result).fits) in
+    let word = c.down_in.result in
+    let found = edge_found c.args.rows c.args.words.now (x / 64) (x % 64) _ c.args.y word c.requires.y c.down_in.ensures (lowest_from word (x % 64) _ refl (omega arith) (omega arith) (omega arith)) in
     found.2 u (omega arith) left
 
 pub loop-strip-init : goal.loop-strip-init
 loop-strip-init c = λ u right left.
     let x = c.args.x in
-    edge_none c.args.rows c.args.words.now (x / 64) c.args.y c.word_place.result u c.requires.y c.word_place.ensures.value (omega arith) (omega arith)
-    (none_from _ (x % 64) _ (u - 64 * (x / 64)) refl (omega arith) c.if-word-ne0.false (omega arith) (omega arith))
+    let word = c.down_in.result in
+    edge_none c.args.rows c.args.words.now (x / 64) c.args.y word u c.requires.y c.down_in.ensures (omega arith) (omega arith)
+    (none_from word (x % 64) _ (u - 64 * (x / 64)) refl (omega arith) c.if-word-ne0.false (omega arith) (omega arith))
 
 pub returns-then-word-ne0-2-clause-edge : goal.returns-then-word-ne0-2-clause-edge
 returns-then-word-ne0-2-clause-edge c =
-    let place = c.word_place-in-loop-strip in
-    let found = edge_found c.args.rows c.args.words.now c.loop-strip.strip 0 _ c.args.y place.result c.requires.y place.ensures.value
-    (lowest_whole _ (omega arith) (c.type_inv.words place.result).fits) in
+    let word = c.down_in-word.result in
+    let found = edge_found c.args.rows c.args.words.now c.loop-strip.strip 0 _ c.args.y word c.requires.y c.down_in-word.ensures (lowest_whole word (omega arith) (omega arith)) in
     (omega (arith, found.0), found.1)
 
 pub returns-then-word-ne0-2-clause-left : goal.returns-then-word-ne0-2-clause-left
 returns-then-word-ne0-2-clause-left c = λ u right left.
-    let place = c.word_place-in-loop-strip in
-    let found = edge_found c.args.rows c.args.words.now c.loop-strip.strip 0 _ c.args.y place.result c.requires.y place.ensures.value
-    (lowest_whole _ (omega arith) (c.type_inv.words place.result).fits) in
+    let word = c.down_in-word.result in
+    let found = edge_found c.args.rows c.args.words.now c.loop-strip.strip 0 _ c.args.y word c.requires.y c.down_in-word.ensures (lowest_whole word (omega arith) (omega arith)) in
     elim (cases_lt u (64 * c.loop-strip.strip)) [
       | inl before ↦ c.loop-strip.invariant u right before
       | inr here ↦ found.2 u (omega arith) left
@@ -45,12 +44,11 @@ returns-then-word-ne0-2-clause-left c = λ u right left.
 
 pub loop-strip-preserved : goal.loop-strip-preserved
 loop-strip-preserved c = λ u right left.
-    let place = c.word_place-in-loop-strip in
     let strip = c.loop-strip.strip in
     elim (cases_lt u (64 * strip)) [
       | inl before ↦ c.loop-strip.invariant u right before
       | inr here ↦
-          edge_none c.args.rows c.args.words.now strip c.args.y place.result u c.requires.y place.ensures.value here (omega arith)
+          edge_none c.args.rows c.args.words.now strip c.args.y c.down_in-word.result u c.requires.y c.down_in-word.ensures here (omega arith)
           (ap (λ n. is_one n (u - 64 * strip)) c.if-word-ne0-2.false ∙ is_one-zero (u - 64 * strip))
     ]
 
@@ -60,11 +58,8 @@ returns-clause-none c = λ _ u right. elim (cases_lt u (64 * c.loop-strip.strip)
   | inr past ↦ has_edge-past c.args.rows c.args.strips c.args.words.now 0 u c.args.y c.requires.room (omega arith)
 ]
 
-pub bounds-words-word_place : goal.bounds-words-word_place
-bounds-words-word_place c =
-    c.word_place.ensures.inside (length c.args.words.now) (strip_room c.args.rows c.args.strips (c.args.x / 64) (length c.args.words.now) c.requires.x c.requires.room)
+pub down_in-requires-clause-room : goal.down_in-requires-clause-room
+down_in-requires-clause-room c = strip_room c.args.rows c.args.strips (c.args.x / 64) (length c.args.words.now) c.requires.x c.requires.room
 
-pub bounds-words-word_place-in-loop-strip : goal.bounds-words-word_place-in-loop-strip
-bounds-words-word_place-in-loop-strip c =
-    c.word_place-in-loop-strip.ensures.inside (length c.args.words.now)
-    (strip_room c.args.rows c.args.strips c.loop-strip.strip (length c.args.words.now) (omega arith) c.requires.room)
+pub down_in-word-requires-clause-room : goal.down_in-word-requires-clause-room
+down_in-word-requires-clause-room c = strip_room c.args.rows c.args.strips c.loop-strip.strip (length c.args.words.now) (omega arith) c.requires.room

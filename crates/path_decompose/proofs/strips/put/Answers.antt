@@ -7,9 +7,10 @@ use Rattle.path_decompose.specs.Inner.BoundaryBits.{has_edge, same_edge}
 use Rattle.path_decompose.proofs.EdgeBits.{has_edge-set}
 use Rattle.path_decompose.proofs.strips.put.Goals as goal
 
-pub returns-then-edges-ne0-clause-edges : goal.returns-then-edges-ne0-clause-edges
-returns-then-edges-ne0-clause-edges c = λ k u v p.
-    has_edge-set c.args.rows c.args.words.now c.args.kind c.args.strip c.args.y c.word_place.result c.args.edges c.requires.y c.requires.kind c.word_place.ensures.value
+pub returns-in_ok-put-clause-edges : goal.returns-in_ok-put-clause-edges
+returns-in_ok-put-clause-edges c = λ k u v p.
+    ap (λ ws. has_edge c.args.rows ws k u v) c.in_ok-put.ensures
+    ∙ has_edge-set c.args.rows c.args.words.now c.args.kind c.args.strip c.args.y c.word_place.result c.args.edges c.requires.y c.requires.kind c.word_place.ensures.value
     (c.word_place.ensures.inside (length c.args.words.now) c.requires.room)
     k u v p
 

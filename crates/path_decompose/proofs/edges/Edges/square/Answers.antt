@@ -1,7 +1,6 @@
 -- The relative pixels are the pixels where the first one is white, and the other way round where it is black.
-use Rattle.std.proofs.Common.{◌∙◌, subst, sym}
+use Rattle.std.proofs.Common.{◌∙◌, sym}
 use Rattle.bit_image.specs.Page.{image_of}
-use Rattle.path_decompose.specs.Inner.BoundaryBits.{AreEdgesOf}
 use Rattle.path_decompose.proofs.Differ.{not-beq}
 use Rattle.path_decompose.proofs.EdgeBits.{read_bit}
 use Rattle.path_decompose.proofs.EightPixels.{square_same, square_turned}
@@ -10,16 +9,14 @@ use Rattle.path_decompose.proofs.edges.Edges.square.Goals as goal
 
 pub returns-then-wrong : goal.returns-then-wrong
 returns-then-wrong c = λ i j p q.
-    let a = c.self.inside in
     let b = image_of c.args.self.now in
-    let edges = subst (AreEdgesOf b a.rows) (sym c.deref.ensures.value) (self_edges _ _ _ _ _ c.args.self.now c.self.invariant c.self.view_is) in
+    let edges = self_edges _ _ _ _ _ c.args.self.now c.self.invariant c.self.view_is in
     square_turned b c.args.x c.args.y c.relative_square-square.result c.args.black _ (read_bit c.relative_square-square.result 36) c.requires.pixel
     (sym (not-beq _ c.args.black) ∙ c.if-wrong.true) (c.relative_square-square.ensures b edges) i j p q
 
 pub returns-else-wrong : goal.returns-else-wrong
 returns-else-wrong c = λ i j p q.
-    let a = c.self.inside in
     let b = image_of c.args.self.now in
-    let edges = subst (AreEdgesOf b a.rows) (sym c.deref.ensures.value) (self_edges _ _ _ _ _ c.args.self.now c.self.invariant c.self.view_is) in
+    let edges = self_edges _ _ _ _ _ c.args.self.now c.self.invariant c.self.view_is in
     square_same b c.args.x c.args.y c.relative_square-square.result c.args.black _ (read_bit c.relative_square-square.result 36) c.requires.pixel
     (sym (not-beq _ c.args.black) ∙ c.if-wrong.false) (c.relative_square-square.ensures b edges) i j p q

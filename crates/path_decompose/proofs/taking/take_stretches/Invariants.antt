@@ -1,14 +1,14 @@
 use Rattle.std.proofs.Common.{◌<◌, ◌-◌, length}
-use Rattle.path_decompose.specs.Inner.Flipped.{IsSpotOf, corner_of, AreFlipped}
-use Rattle.path_decompose.proofs.flipping.flip_path.Given as goal
+use Rattle.path_decompose.specs.Inner.Taken.{IsSpotOf, corner_of, AreTaken}
+use Rattle.path_decompose.proofs.taking.take_stretches.Given as goal
 
 -- the lines so far
 abbrev pub invariant-stretches : goal.invariant-stretches
 invariant-stretches l =
     record {
       inside : l.at < length l.points;
-      flipped : AreFlipped l.rows l.points 0 l.at l.fn.words l.words;
-      spot : IsSpotOf l.rows (corner_of l.points l.at) l.spot;
+      taken : AreTaken l.rows l.starts l.points 0 l.at l.fn.words l.words;
+      spot : IsSpotOf l.rows l.starts (corner_of l.points l.at) l.spot;
     }
 
 abbrev pub decreases-stretches : goal.decreases-stretches
