@@ -6,7 +6,7 @@ use std::alloc::Global;
 use std::mem::replace;
 
 /// The list of a walk of more points isn't copied.
-const LONG: usize = 1 << 14;
+const LONG: usize = 1 << 12;
 
 /// What is noted down of a walk along a boundary. A trail serves for one walk after another.
 #[derive(Drop)]
