@@ -1,13 +1,13 @@
 -- One bit of the words of edges after a write.
-use Rattle.std.proofs.Common.{◌≡◌, ℕ, zero, suc, ◌+◌, ◌-◌, ◌*◌, ◌/◌, ◌%◌, ◌^◌, ◌<◌, ◌≤◌, Bool, true, false, not, cond, ◌&&◌, ◌||◌, nat_eq, nat_lt, List, [], ◌∷◌, length, get_or, set, w64, refl, ap, sym, ◌∙◌, inl, inr, arith}
+use Rattle.std.proofs.Common.{◌≡◌, ◌≢◌, ◌⊎◌, ℕ, zero, suc, ◌+◌, ◌-◌, ◌*◌, ◌/◌, ◌%◌, ◌^◌, ◌<◌, ◌≤◌, Bool, true, false, not, cond, ◌&&◌, ◌||◌, nat_eq, nat_lt, List, [], ◌∷◌, length, get_or, set, w64, refl, ap, sym, ◌∙◌, inl, inr, arith}
 use Rattle.std.specs.Int.RustNames.{bit_and, bit_or, bit_xor}
-use Rattle.std.proofs.lemmas.Bool.{cases_lt, cases_eq, cases_order, cond-true, cond-false, eq-eqb, ne_eqb, eqb-true, and_from, and_parts, and_left, lt-ltb, cases_Bool}
+use Rattle.std.proofs.lemmas.Bool.{cases_lt, cases_eq, cases_order, cond-true, cond-false, eq-eqb, ne_eqb, eqb-true, and_from, and_parts, and_left, and_right, lt-ltb, cases_Bool}
 use Rattle.std.proofs.lemmas.Bool.Decides.{nat_tests}
 use Rattle.std.specs.Int.{bit_at, bit_not, trailing_zeros}
-use Rattle.std.proofs.lemmas.Nat.{row_fits, mul-le, and_le_l}
+use Rattle.std.proofs.lemmas.Nat.{row_fits, mul-le, and_le_l, le_or_l, le_or_r}
 use Rattle.std.proofs.lemmas.Nat.Bits.{bit_at_above, bit_at_not, bit_at-lt, shr_and_one, bit_at-trailing_zeros}
 use Rattle.std.proofs.lemmas.Grind.{get_or-set_at}
-use Rattle.std.proofs.lemmas.List.{get_or-set_other, get_or_past}
+use Rattle.std.proofs.lemmas.List.{length-set, get_or-set_other, get_or_past}
 use Rattle.bit_image.specs.Image.{differ}
 use Rattle.bit_image.specs.Words.{is_one}
 use Rattle.bit_image.specs.Inner.Words.{black_in}
@@ -96,6 +96,27 @@ has_edge-set rows words kind strip y at word low p place inside k u v q =
     two_apart false b c e = refl
     two_apart true false c e = refl
     two_apart true true c e = e
+
+-- the words of both kinds that are written whole
+pub has_edge-set_two : (rows : ℕ) (words : List ℕ) (strip y at down left : ℕ) → y < rows → at ≡ word_place rows 0 strip y → at + 1 < length words
+    → (k u v : ℕ) → k < 2 → has_edge rows (set (set words at down) (at + 1) left) k u v
+    ≡ cond (same_edge 1 strip y k (u / 64) v) (is_one left (u % 64)) (cond (same_edge 0 strip y k (u / 64) v) (is_one down (u % 64)) (has_edge rows words k u v))
+has_edge-set_two rows words strip y at down left low place inside k u v p =
+    has_edge-set rows (set words at down) 1 strip y (at + 1) left low (omega arith) (omega (arith, place)) (omega (arith, inside, length-set words at down)) k u v p
+    ∙ ap (cond (same_edge 1 strip y k (u / 64) v) (is_one left (u % 64))) (has_edge-set rows words 0 strip y at down low (omega arith) place (omega arith) k u v p)
+
+-- and those of other rows and strips, which stay
+pub has_edge-set_apart : (rows : ℕ) (words : List ℕ) (strip y at down left : ℕ) → y < rows → at ≡ word_place rows 0 strip y → at + 1 < length words
+    → (k u v : ℕ) → k < 2 → (u / 64 ≢ strip) ⊎ (v ≢ y) → has_edge rows (set (set words at down) (at + 1) left) k u v ≡ has_edge rows words k u v
+has_edge-set_apart rows words strip y at down left low place inside k u v p away =
+    has_edge-set_two rows words strip y at down left low place inside k u v p
+    ∙ cond-false _ _ _ (other 1) ∙ cond-false _ _ _ (other 0)
+  where
+    other : (kind : ℕ) → same_edge kind strip y k (u / 64) v ≡ false
+    other kind = and_right (nat_eq kind k) _ (elim away [
+      | inl strips ↦ and_left _ (nat_eq y v) (ne_eqb strip (u / 64) (λ e. strips (sym e)))
+      | inr lines ↦ and_right (nat_eq strip (u / 64)) _ (ne_eqb y v (λ e. lines (sym e)))
+    ])
 
 first : is_one 1 0 ≡ true
 unfolding is_one
@@ -225,6 +246,19 @@ strip_edges below above strip y u pixels three up old (suc zero) p here a b c =
     ∙ ap (λ t. differ t (is_one up (u % 64))) (a (u % 64) (omega arith) ∙ ap (black_in (0 ∷ below)) four)
     ∙ ap (differ (black_in (0 ∷ below) (u + 60))) (c (u % 64) (omega arith) ∙ ap (black_in (0 ∷ above)) four)
 strip_edges below above strip y u pixels three up old (suc (suc k)) p here a b c = absurd (omega arith)
+
+-- a strip has no edges where both words are 0
+pub strip_edges-none : (strip y k u v down left : ℕ) → bit_or down left ≡ 0
+    → cond (same_edge 1 strip y k u y) (is_one left v) (cond (same_edge 0 strip y k u y) (is_one down v) false) ≡ false
+strip_edges-none strip y k u v down left none =
+    let no_down : down ≡ 0 = omega (arith, none, le_or_l down left) in
+    let no_left : left ≡ 0 = omega (arith, none, le_or_r down left) in
+    neither (same_edge 1 strip y k u y) (same_edge 0 strip y k u y) (ap (λ n. is_one n v) no_left ∙ is_one-zero v) (ap (λ n. is_one n v) no_down ∙ is_one-zero v)
+  where
+    neither : (a b : Bool) {s t : Bool} → s ≡ false → t ≡ false → cond a s (cond b t false) ≡ false
+    neither true b p q = p
+    neither false true p q = q
+    neither false false p q = refl
 
 -- right of the words there are no edges
 pub changes_in-past : (below above : List ℕ) (k u : ℕ) → length above ≡ length below → length below < u / 64 → k < 2 → changes_in below above k u ≡ false

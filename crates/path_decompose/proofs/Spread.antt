@@ -98,7 +98,7 @@ blocks_set starts words i x blocks some =
       apart = blocks.apart;
     }
 
-pub put_in : (starts words all : List ℕ) (start place word : ℕ) → AreBlocks starts words → spread starts words ≡ all → place < length all → 0 < start → start ≡ get_or starts (place / 16) 0
+put_in : (starts words all : List ℕ) (start place word : ℕ) → AreBlocks starts words → spread starts words ≡ all → place < length all → 0 < start → start ≡ get_or starts (place / 16) 0
     → AreBlocks starts (set words (start + place % 16) word) × (spread starts (set words (start + place % 16) word) ≡ set all place word)
 put_in starts words all start place word blocks is inside some begins =
     let own : 0 < get_or starts (place / 16) 0 = omega (arith, some, begins) in
@@ -107,6 +107,19 @@ put_in starts words all start place word blocks is inside some begins =
       blocks_set starts words place word blocks own,
       spread-set starts words place word blocks (omega (arith, inside, ap length is, length-spread starts words)) own ∙ ap (λ ws. set ws place word) is,
     )
+
+-- and two words side by side
+pub put_two_in : (starts words all : List ℕ) (start place first second : ℕ) → AreBlocks starts words → spread starts words ≡ all → place % 2 ≡ 0 → place + 1 < length all → 0 < start → start ≡ get_or starts (place / 16) 0
+    → AreBlocks starts (set (set words (start + place % 16) first) (start + place % 16 + 1) second)
+    × (spread starts (set (set words (start + place % 16) first) (start + place % 16 + 1) second) ≡ set (set all place first) (place + 1) second)
+put_two_in starts words all start place first second blocks is even inside some begins =
+    let once : List ℕ = set words (start + place % 16) first in
+    let one = put_in starts words all start place first blocks is (omega arith) some begins in
+    let block : place / 16 ≡ (place + 1) / 16 = omega (arith, even) in
+    let at : start + (place + 1) % 16 ≡ start + place % 16 + 1 = omega (arith, even) in
+    let within : place + 1 < length (set all place first) = omega (arith, inside, length-set all place first) in
+    subst (λ n. AreBlocks starts (set once n second) × (spread starts (set once n second) ≡ set (set all place first) (place + 1) second)) at
+    (put_in starts once (set all place first) start (place + 1) second one.0 one.1 within some (begins ∙ ap (λ b. get_or starts b 0) block))
 
 set_same : (xs : List ℕ) (i x : ℕ) → get_or xs i 0 ≡ x → set xs i x ≡ xs
 set_same xs i x is = ap (set xs i) (sym is) ∙ set-get_or xs i 0

@@ -5,7 +5,7 @@
 //!     starts    0         16        0         32
 //!     words     16 zeros | those of block 1 | those of block 3
 //! ```
-ghost use Rattle.std.specs.Prelude.{◌≡◌, ◌+◌, ◌*◌, ◌<◌, ◌^◌, length, replicate, set, slice_index_or, IfOk, OnOk};
+ghost use Rattle.std.specs.Prelude.{◌≡◌, ◌+◌, ◌*◌, ◌%◌, ◌<◌, ◌^◌, length, replicate, set, slice_index_or, IfOk, OnOk};
 ghost use Rattle.path_decompose.specs.Inner.Blocks.{spread, AreBlocks};
 
 use pt_core::NoMemory;
@@ -72,13 +72,15 @@ impl Blocks {
         self.words[self.starts[block] as usize + i]
     }
 
-    /// Puts a word at a place, whose block has room from then on.
-    pub(crate) fn put(&mut self, place: usize, word: u64) -> Result<(), NoMemory>
-        requires { place < length self.old }
-        ensures { OnOk result (self.new ≡ set self.old place word) }
+    /// Puts two words side by side, the first at an even place. Their block has room from then on.
+    pub(crate) fn put_two(&mut self, place: usize, first: u64, second: u64) -> Result<(), NoMemory>
+        requires even { place % 2 ≡ 0 }
+        requires inside { place + 1 < length self.old }
+        ensures { OnOk result (self.new ≡ set (set self.old place first) (place + 1) second) }
     {
-        let start = room_of(&mut self.starts, &mut self.words, place / BLOCK)?;
-        self.words[start + place % BLOCK] = word;
+        let at = room_of(&mut self.starts, &mut self.words, place / BLOCK)? + place % BLOCK;
+        self.words[at] = first;
+        self.words[at + 1] = second;
         Ok(())
     }
 }

@@ -3,7 +3,7 @@
 //! A word has the edges that go down from 64 corners side by side, and the next word those that go left. The least
 //! significant bit is the leftmost one. So what lies above and below an edge is near it in memory too. Eight rows of a
 //! strip are a block of words, which takes room only where there are edges.
-ghost use Rattle.std.specs.Prelude.{◌≡◌, ◌≢◌, ◌⊎◌, ◌↔◌, IsNone, IfSome, IsTrue, true, ℕ, ◌+◌, ◌-◌, ◌*◌, ◌/◌, ◌%◌, ◌^◌, ◌≤◌, ◌<◌, false, cond, List, ◌∷◌, length, slice_index_or, OnOk};
+ghost use Rattle.std.specs.Prelude.{◌≡◌, ◌≢◌, ◌⊎◌, ◌↔◌, IsNone, IfSome, IsTrue, true, ℕ, ◌+◌, ◌-◌, ◌*◌, ◌/◌, ◌%◌, ◌^◌, ◌≤◌, ◌<◌, false, List, ◌∷◌, length, slice_index_or, OnOk};
 ghost use Rattle.bit_image.specs.Words.{is_one};
 ghost use Rattle.bit_image.specs.Inner.Words.{black_in};
 ghost use Rattle.path_decompose.specs.Inner.Blocks.{AreBlocks};
@@ -165,35 +165,6 @@ pub(crate) fn take_edge(words: &mut [u64], spot: Spot, kind: usize)
     words[spot.down + kind] &= !spot.bit;
 }
 
-/// Puts the edges of a kind into one row of a strip that has none there.
-///
-/// Most words stay 0, as they are already: these are not written.
-#[inline(always)]
-fn put(
-    words: &mut Blocks,
-    rows: usize,
-    kind: usize,
-    strip: usize,
-    y: usize,
-    edges: u64,
-) -> Result<(), NoMemory>
-    requires kind { kind < 2 }
-    requires strip { strip < 2 ^ 16 }
-    requires rows { rows < 2 ^ 16 }
-    requires y { y < rows }
-    requires room { 2 * ((strip + 1) * rows) ≤ length words.old }
-    requires none { (u : ℕ) → u / 64 ≡ strip → has_edge rows words.old kind u y ≡ false }
-    ensures length { OnOk result (length words.new ≡ length words.old) }
-    ensures edges { OnOk result ((k u v : ℕ) → k < 2 → has_edge rows words.new k u v
-        ≡ cond (same_edge kind strip y k (u / 64) v) (is_one edges (u % 64))
-        (has_edge rows words.old k u v)) }
-{
-    if edges != 0 {
-        words.put(word_place(rows, kind, strip, y), edges)?;
-    }
-    Ok(())
-}
-
 /// Puts the edges along a row of pixels, and between it and the row above, into row `y` of the strips, which has none.
 pub(crate) fn put_row(
     words: &mut Blocks,
@@ -252,8 +223,10 @@ fn put_strip(
     let pixels = pixels_behind(before.0, here.0, 4);
     let down = pixels ^ pixels_behind(before.0, here.0, 3);
     let left = pixels ^ pixels_behind(before.1, here.1, 4);
-    put(words, rows, DOWN, strip, y, down)?;
-    put(words, rows, LEFT, strip, y, left)?;
+    // Most words stay 0, as they are already: these are not written.
+    if down | left != 0 {
+        words.put_two(word_place(rows, DOWN, strip, y), down, left)?;
+    }
     Ok(())
 }
 
