@@ -1,5 +1,5 @@
 -- The cheapest of several segments, while they are tried.
-use Rattle.std.proofs.Common.{◌≡◌, ℕ, ◌+◌, ◌<◌, ◌≤◌, List, refl, ap, sym, subst, inl, inr, arith}
+use Rattle.std.proofs.Common.{◌≡◌, ℕ, ◌+◌, ◌<◌, ◌≤◌, List, length, refl, ap, sym, subst, inl, inr, arith}
 use Rattle.std.proofs.lemmas.Bool.{cases_eq, cases_lt}
 use Rattle.polygon_optimal.specs.declared.search.Onward.{Onward}
 use Rattle.std.specs.Prelude.{slice_index}
@@ -134,6 +134,6 @@ tried_by cost_by begin to j worth best so_far onward room ej ew taken kept is =
     tried_more cost_by begin to best so_far onward room (rw (ej, ew) at taken) (rw ew at kept) is
 
 -- what it costs with the rest of the way
-pub worth_is : (penalty : ℕ → ℕ → ℕ) (costs : List ℕ) (from to i j slot : ℕ) → i ≡ from → j ≡ to → slot ≡ slot_of to
-    → penalty i j + slice_index costs slot ≡ penalty from to + slice_index costs (slot_of to)
+pub worth_is : (penalty : ℕ → ℕ → ℕ) (costs : List ℕ) (from to i j slot : ℕ) → i ≡ from → j ≡ to → slot ≡ slot_of (length costs) to
+    → penalty i j + slice_index costs slot ≡ penalty from to + slice_index costs (slot_of (length costs) to)
 worth_is penalty costs from to i j slot ei ej es = rw (ei, ej, es) refl

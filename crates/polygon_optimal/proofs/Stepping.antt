@@ -5,7 +5,7 @@ use Rattle.std.specs.Prelude.{slice_index}
 use Rattle.least_walk.specs.Inner.Suffix.{IsLeastCost, IsLeastNext}
 use Rattle.polygon_optimal.specs.declared.search.Onward.{Onward}
 use Rattle.polygon_optimal.specs.Inner.Lasts.{AreRising, IsUpToLast, LeadsOn}
-use Rattle.polygon_optimal.specs.Inner.Search.{AreKept, AreWindowEnds, BeginsWindow, HasCheapest, counts_of, slot_of}
+use Rattle.polygon_optimal.specs.Inner.Search.{AreEnoughSlots, AreKept, AreWindowEnds, BeginsWindow, HasCheapest, counts_of, slot_of}
 use Rattle.polygon_optimal.proofs.Counting.{AreCounted, before_end, counted, last_keeps, some_left}
 use Rattle.polygon_optimal.proofs.Leasts.{AreCheap, IsBeforeWindow, best_onward, costs_small}
 use Rattle.polygon_optimal.proofs.Opening.{HasNextWindow, left_here, vertex_here, opens_at, far_below, far_reaches}
@@ -70,22 +70,22 @@ module _ (size : ℕ) (lasts counts farthest : List ℕ) (window begin : ℕ) (w
 
 module _ (size : ℕ) (lasts counts : List ℕ) (known : AreCounted size lasts counts) (cost : ℕ → ℕ → ℕ) (cheap : AreCheap size lasts cost)
     (costs : List ℕ) (i begin : ℕ) (here : IsBeforeWindow size lasts counts i begin)
-    (later : AreKept size (IsUpToLast lasts) cost (i + 1) costs) where
+    (slots : AreEnoughSlots size lasts (length costs)) (later : AreKept size (IsUpToLast lasts) cost (i + 1) costs) where
   -- the slots have what the ways on from the next window cost
-  kept_there : (k : ℕ) → begin ≤ k → k ≤ slice_index lasts i → slice_index costs (slot_of k) ≡ slice_index later.whole k
+  kept_there : (k : ℕ) → begin ≤ k → k ≤ slice_index lasts i → slice_index costs (slot_of (length costs) k) ≡ slice_index later.whole k
   kept_there k above near =
       let on = known.leads i here.below in
-      later.kept k (omega (arith, here.begins.above)) (omega (arith, on.within)) (omega (arith, here.begins.above, on.short, on.beyond))
+      later.kept k (omega (arith, here.begins.above)) (omega (arith, on.within)) (omega (arith, on.beyond, slots.beyond i here.below))
 
   -- none of them costs as much as 2^56
-  pub kept_small : (k : ℕ) → begin ≤ k → k ≤ slice_index lasts i → slice_index costs (slot_of k) < 2 ^ 56
+  pub kept_small : (k : ℕ) → begin ≤ k → k ≤ slice_index lasts i → slice_index costs (slot_of (length costs) k) < 2 ^ 56
   kept_small k above near =
       omega (arith, kept_there k above near, costs_small size lasts counts known cost cheap later.whole i begin here later.are k above near)
 
   -- the cheapest segment begins the best way on
-  pub kept_best : (onward : Onward) → HasCheapest (λ k. cost i k + slice_index costs (slot_of k)) begin (slice_index lasts i + 1) onward
+  pub kept_best : (onward : Onward) → HasCheapest (λ k. cost i k + slice_index costs (slot_of (length costs) k)) begin (slice_index lasts i + 1) onward
       → IsLeastCost size (IsUpToLast lasts) cost i onward.cost × IsLeastNext size (IsUpToLast lasts) cost i onward.next
   kept_best onward best =
       best_onward size lasts counts known cost cheap later.whole i begin here later.are onward
-      (cheapest_same (λ k. cost i k + slice_index costs (slot_of k)) (λ k. cost i k + slice_index later.whole k) begin (slice_index lasts i + 1) onward
+      (cheapest_same (λ k. cost i k + slice_index costs (slot_of (length costs) k)) (λ k. cost i k + slice_index later.whole k) begin (slice_index lasts i + 1) onward
       (λ k above near. ap (λ n. cost i k + n) (kept_there k above (omega arith))) best)

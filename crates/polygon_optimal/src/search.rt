@@ -11,12 +11,13 @@
 //!                                             window is reached.
 //! ```
 ghost use Rattle.std.specs.Prelude.{◌≡◌, ℕ, ◌+◌, ◌-◌, ◌^◌, ◌<◌, ◌≤◌, length, slice_index, unsigned_abs, IfOk, OnOk};
+ghost use Rattle.std.specs.Int.{IsPowerOfTwo};
 ghost use Rattle.least_walk.specs.LeastWalk.{IsLeast, walk_from, step_count, total_cost};
 ghost use Rattle.least_walk.specs.Inner.Suffix.{HasNexts, IsFewestFrom, IsLeastCost};
 ghost use Rattle.polygon_optimal.specs.Inner.Lasts.{IsUpToLast};
 ghost use Rattle.prefix_moments.specs.Sums.{spread_of, IsPenalty};
 ghost use Rattle.polygon_optimal.specs.Polygon.{penalty_of};
-ghost use Rattle.polygon_optimal.specs.Inner.Search.{AreKept, AreWindowEnds, BeginsWindow, HasCheapest, HasSlots, IsCheaperIn, counts_of, slot_of};
+ghost use Rattle.polygon_optimal.specs.Inner.Search.{AreEnoughSlots, AreKept, AreWindowEnds, BeginsWindow, HasCheapest, IsCheaperIn, counts_of, slot_of};
 
 use crate::room::{SearchRoom, make_places};
 use crate::segments::Segments;
@@ -24,10 +25,6 @@ use least_walk::Walk;
 use prefix_moments::{Growing, Roots};
 use pt_core::{NoMemory, Sequence};
 use std::alloc::Global;
-
-/// How many costs are kept: more than the longest segment has steps. As they are a power of two, a slot is
-/// found without a division.
-const SLOTS: usize = 1 << 16;
 
 /// In a window that goes so far beyond its nearest point, the best segment is guessed first. In a narrower one that costs
 /// more than the roots that it saves.
@@ -72,18 +69,14 @@ pub(crate) fn least_by_windows(
         (walk_from walk.at (length segments.now.moments.now))) }
 {
     let places = segments.lasts.len() + 1;
-    make_places(&mut room.costs, places.min(SLOTS), 0u64)?;
+    let slots = enough_slots(segments);
+    make_places(&mut room.costs, slots, 0u64)?;
     make_places(&mut room.nexts, places, 0u32)?;
     fill_farthest(segments, &mut room.farthest)?;
-    fill_costs(
-        segments,
-        &room.farthest,
-        &mut room.costs,
-        &mut room.nexts,
-        roots,
-    );
+    let costs = &mut room.costs[..slots];
+    fill_costs(segments, &room.farthest, costs, &mut room.nexts, roots);
     let count = (room.farthest.len() - 1) as u32;
-    walk_along(alloc, segments, count, room.costs[0], &room.nexts)
+    walk_along(alloc, segments, count, costs[0], &room.nexts)
 }
 
 /// The walk that begins at 0 and goes on by `nexts`, where the whole of it has so many segments and costs so much.
@@ -139,18 +132,27 @@ fn fill_farthest(segments: &Segments, farthest: &mut Vec<u32>) -> Result<(), NoM
     Ok(())
 }
 
+/// How many costs are kept: the least power of two above the steps of the longest segment.
+//
+// A cost takes 8 bytes, and a list of one for each point of a long path is memory that is used for the first time,
+// which takes longer than the search. The longest segment of a map has some hundred steps, so its costs take a few KiB.
+// The price: a mask for each cost, and a proof that speaks of a list of all costs that isn't there (`AreKept`).
+fn enough_slots(segments: &Segments) -> usize
+    ensures enough { AreEnoughSlots (length segments.now.moments.now) segments.now.lasts.items result }
+    ensures few { result ≤ 2 ^ 16 }
+{
+    (segments.most_steps() as usize + 1).next_power_of_two()
+}
+
 /// Where the cost of the best way from this point is kept.
 //
 // Points of one slot are farther apart than a segment is long. So when a point is looked at, each of those
-// that a segment leads to has its slot for itself.
-//
-// A cost takes 8 bytes, and a list of one for each point of a long path is memory that is used for the first time,
-// which takes longer than the search; so half a MiB does for any path. The price: a mask for each cost, and a proof that
-// speaks of a list of all costs that isn't there (`AreKept`).
-fn slot(point: usize) -> usize
-    ensures { result ≡ slot_of point }
+// that a segment leads to has its slot for itself. As there are a power of two of them, one is found without a division.
+fn slot(costs: &[u64], point: usize) -> usize
+    requires { IsPowerOfTwo (length costs.now) }
+    ensures { result ≡ slot_of (length costs.now) point }
 {
-    point % SLOTS
+    point & (costs.len() - 1)
 }
 
 /// Writes down, for each vertex of a polygon of fewest segments, where the best way from there to the end
@@ -162,7 +164,7 @@ fn fill_costs(
     nexts: &mut [u32],
     roots: &mut Roots,
 )
-    requires slots { HasSlots (length segments.now.moments.now) costs.old }
+    requires slots { AreEnoughSlots (length segments.now.moments.now) segments.now.lasts.items (length costs.old) }
     requires next_places { length segments.now.moments.now + 1 ≤ length nexts.old }
     requires windows { AreWindowEnds (length segments.now.moments.now) segments.now.lasts.items farthest.now }
     ensures cost { IsLeastCost (length segments.now.moments.now)
@@ -172,7 +174,7 @@ fn fill_costs(
         (penalty_of segments.now.moments.now) 0 nexts.new }
 {
     let size = segments.lasts.len();
-    costs[slot(size)] = 0;
+    costs[slot(costs, size)] = 0;
     let mut begin = size as u32;
     for window in (0..farthest.len() - 1).rev() {
         begin = fill_window(segments, farthest, window, begin, costs, nexts, roots);
@@ -190,7 +192,7 @@ fn fill_window(
     nexts: &mut [u32],
     roots: &mut Roots,
 ) -> u32
-    requires slots { HasSlots (length segments.now.moments.now) costs.old }
+    requires slots { AreEnoughSlots (length segments.now.moments.now) segments.now.lasts.items (length costs.old) }
     requires next_places { length segments.now.moments.now + 1 ≤ length nexts.old }
     requires windows { AreWindowEnds (length segments.now.moments.now) segments.now.lasts.items farthest.now }
     requires window { window + 1 < length farthest.now }
@@ -200,7 +202,6 @@ fn fill_window(
         (penalty_of segments.now.moments.now) begin costs.old }
     requires later_nexts { HasNexts (length segments.now.moments.now) (IsUpToLast segments.now.lasts.items)
         (penalty_of segments.now.moments.now) begin nexts.old }
-    ensures slots { HasSlots (length segments.now.moments.now) costs.new }
     ensures next_places { length nexts.new ≡ length nexts.old }
     ensures begin { BeginsWindow (length segments.now.moments.now)
         (counts_of (length segments.now.moments.now) segments.now.lasts.items) window result }
@@ -214,7 +215,7 @@ fn fill_window(
         let guess = nexts[first as usize];
         first -= 1;
         let onward = cheapest_from(segments, first, begin, guess, costs, roots);
-        costs[slot(first as usize)] = onward.cost;
+        costs[slot(costs, first as usize)] = onward.cost;
         nexts[first as usize] = onward.next;
     }
     first
@@ -237,11 +238,11 @@ fn cheapest_from(
     requires some { begin ≤ slice_index segments.now.lasts.items from }
     requires lap { begin < length segments.now.moments.now
         → slice_index segments.now.lasts.items from < length segments.now.moments.now }
-    requires slots { HasSlots (length segments.now.moments.now) costs.now }
+    requires slots { IsPowerOfTwo (length costs.now) }
     requires small { (k : ℕ) → begin ≤ k → k ≤ slice_index segments.now.lasts.items from
-        → slice_index costs.now (slot_of k) < 2 ^ 56 }
+        → slice_index costs.now (slot_of (length costs.now) k) < 2 ^ 56 }
     ensures { HasCheapest
-        (λ k. penalty_of segments.now.moments.now from k + slice_index costs.now (slot_of k))
+        (λ k. penalty_of segments.now.moments.now from k + slice_index costs.now (slot_of (length costs.now) k))
         begin (slice_index segments.now.lasts.items from + 1) result }
 {
     if begin as usize == segments.lasts.len() {
@@ -274,11 +275,11 @@ fn cheapest_by_guess(
     requires onwards { from < begin }
     requires some { begin ≤ slice_index segments.now.lasts.items from }
     requires lap { slice_index segments.now.lasts.items from < length segments.now.moments.now }
-    requires slots { HasSlots (length segments.now.moments.now) costs.now }
+    requires slots { IsPowerOfTwo (length costs.now) }
     requires small { (k : ℕ) → begin ≤ k → k ≤ slice_index segments.now.lasts.items from
-        → slice_index costs.now (slot_of k) < 2 ^ 56 }
+        → slice_index costs.now (slot_of (length costs.now) k) < 2 ^ 56 }
     ensures { HasCheapest
-        (λ k. penalty_of segments.now.moments.now from k + slice_index costs.now (slot_of k))
+        (λ k. penalty_of segments.now.moments.now from k + slice_index costs.now (slot_of (length costs.now) k))
         begin (slice_index segments.now.lasts.items from + 1) result }
 {
     let last = segments.lasts[from as usize];
@@ -291,7 +292,7 @@ fn cheapest_by_guess(
         next: to,
     };
     let nearest = Growing::in_lap(segments.moments, segments.points, from, begin);
-    let rest = costs[slot(begin as usize)];
+    let rest = costs[slot(costs, begin as usize)];
     let first = cheaper_by(segments, &nearest, rest, bound, false, roots);
     cheaper_far_beyond(segments, &nearest, last + 1, costs, first, roots)
 }
@@ -301,13 +302,13 @@ fn cheapest_by_guess(
 fn onward_by(segments: &Segments, segment: &Growing, costs: &[u64], roots: &mut Roots) -> Onward
     requires segment { segment.now.moments.now ≡ segments.now.moments.now }
     requires reached { segment.now.to ≤ slice_index segments.now.lasts.items segment.now.from }
-    requires slots { HasSlots (length segments.now.moments.now) costs.now }
-    requires small { slice_index costs.now (slot_of segment.now.to) < 2 ^ 56 }
+    requires slots { IsPowerOfTwo (length costs.now) }
+    requires small { slice_index costs.now (slot_of (length costs.now) segment.now.to) < 2 ^ 56 }
     ensures { HasCheapest
-        (λ k. penalty_of segments.now.moments.now segment.now.from k + slice_index costs.now (slot_of k))
+        (λ k. penalty_of segments.now.moments.now segment.now.from k + slice_index costs.now (slot_of (length costs.now) k))
         segment.now.to (segment.now.to + 1) result }
 {
-    let rest = costs[slot(segment.to as usize)];
+    let rest = costs[slot(costs, segment.to as usize)];
     Onward {
         cost: segment.penalty_by(roots) + rest,
         next: segment.to,
@@ -330,16 +331,16 @@ fn cheaper_beyond(
     requires some { segment.now.to < stop }
     requires ends { stop ≤ slice_index segments.now.lasts.items segment.now.from + 1 }
     requires lap { stop ≤ length segments.now.moments.now }
-    requires slots { HasSlots (length segments.now.moments.now) costs.now }
+    requires slots { IsPowerOfTwo (length costs.now) }
     ensures { IsCheaperIn
-        (λ k. penalty_of segments.now.moments.now segment.now.from k + slice_index costs.now (slot_of k))
+        (λ k. penalty_of segments.now.moments.now segment.now.from k + slice_index costs.now (slot_of (length costs.now) k))
         (segment.now.to + 1) stop best result }
 {
     let mut grown = *segment;
     let mut cheapest = best;
     for to in segment.to + 1..stop {
         grown = grown.longer_by(segments.points[to as usize]);
-        let rest = costs[slot(to as usize)];
+        let rest = costs[slot(costs, to as usize)];
         cheapest = cheaper_by(segments, &grown, rest, cheapest, seldom, roots);
     }
     cheapest
@@ -361,9 +362,9 @@ fn cheaper_far_beyond(
     requires some { segment.now.to < stop }
     requires ends { stop ≤ slice_index segments.now.lasts.items segment.now.from + 1 }
     requires lap { stop ≤ length segments.now.moments.now }
-    requires slots { HasSlots (length segments.now.moments.now) costs.now }
+    requires slots { IsPowerOfTwo (length costs.now) }
     ensures { IsCheaperIn
-        (λ k. penalty_of segments.now.moments.now segment.now.from k + slice_index costs.now (slot_of k))
+        (λ k. penalty_of segments.now.moments.now segment.now.from k + slice_index costs.now (slot_of (length costs.now) k))
         (segment.now.to + 1) stop best result }
 {
     cheaper_beyond(segments, segment, stop, costs, best, true, roots)

@@ -2,6 +2,7 @@
 ghost use Rattle.std.specs.Prelude.{◌≡◌, ℕ, ◌+◌, ◌<◌, ◌≤◌, ◌^◌, List, length, slice_index, unsigned_abs, IfOk};
 ghost use Rattle.pt_core.specs.ClosedWalk.{IsClosedWalk};
 ghost use Rattle.pt_core.specs.OnPage.{AreOnPage};
+ghost use Rattle.pt_core.specs.declared.limits.TheConstants.{MOST_STEPS};
 ghost use Rattle.prefix_moments.specs.Sums.{spread_of};
 ghost use Rattle.polygon_optimal.specs.Polygon.{penalty_of};
 ghost use Rattle.polygon_optimal.specs.Inner.Lasts.{AreRising, IsLast, HasLasts, LeadsOn, IsUpToLast};
@@ -52,6 +53,18 @@ impl<'a> Segments<'a> {
             points,
             lasts,
         }
+    }
+
+    /// How many steps the longest of all segments has.
+    pub(crate) fn most_steps(&self) -> u32
+        ensures each { (i : ℕ) → i < length self.now.moments.now → slice_index self.now.lasts.items i ≤ i + result }
+        ensures short { result ≤ MOST_STEPS }
+    {
+        let mut most = 0u32;
+        for i in 0..self.lasts.len() as u32 {
+            most = most.max(self.lasts[i as usize] - i);
+        }
+        most
     }
 }
 

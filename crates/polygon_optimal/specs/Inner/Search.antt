@@ -1,9 +1,8 @@
 -- What the search for a path's best polygon knows of its points.
 use Rattle.std.specs.Prelude.{◌≡◌, ℕ, zero, suc, ◌+◌, ◌-◌, ◌%◌, ◌<◌, ◌≤◌, List, length, replicate, set, slice_index}
-use Rattle.pt_core.specs.declared.limits.TheConstants.{MOST_STEPS}
+use Rattle.std.specs.Int.{IsPowerOfTwo}
 use Rattle.least_walk.specs.Inner.Suffix.{HasCosts}
 use Rattle.polygon_optimal.specs.declared.search.Onward.{Onward}
-use Rattle.polygon_optimal.specs.declared.search.TheConstants.{SLOTS}
 
 -- from each later point, from `low` to the end, no more segments are left than from an earlier one
 abbrev pub AreFalling : ℕ → ℕ → List ℕ → Type 0
@@ -39,13 +38,14 @@ pub record BeginsWindow (size : ℕ) (counts : List ℕ) (window begin : ℕ) : 
   pub left : slice_index counts begin + window ≡ slice_index counts 0
   pub none_before : (k : ℕ) → k < begin → slice_index counts begin < slice_index counts k
 
--- where the cost of the best way from point k is kept: no segment leads from one point to another of the same slot
-abbrev pub slot_of : ℕ → ℕ
-slot_of k = k % SLOTS
+-- so many slots are enough: they are a power of two, and more than each segment has steps
+pub record AreEnoughSlots (size : ℕ) (lasts : List ℕ) (slots : ℕ) : Type 0 where
+  pub power : IsPowerOfTwo slots
+  pub beyond : (i : ℕ) → i < size → slice_index lasts i < i + slots
 
--- each point up to the end has its slot in the list
-abbrev pub HasSlots : ℕ → List ℕ → Type 0
-HasSlots size costs = (k : ℕ) → k ≤ size → slot_of k < length costs
+-- where the cost of the best way from point k is kept
+abbrev pub slot_of : ℕ → ℕ → ℕ
+slot_of slots k = k % slots
 
 -- of the points from `begin` to before `end` this is the cheapest, and of several the first
 pub record HasCheapest (cost_by : ℕ → ℕ) (begin end : ℕ) (onward : Onward) : Type 0 where
@@ -65,4 +65,4 @@ pub record AreKept (size : ℕ) (is_allowed : ℕ → ℕ → Type 0) (cost : �
   pub whole : List ℕ
   pub places : size < length whole
   pub are : HasCosts size is_allowed cost low whole
-  pub kept : (k : ℕ) → low ≤ k → k ≤ size → k < low + (MOST_STEPS + 1) → slice_index costs (slot_of k) ≡ slice_index whole k
+  pub kept : (k : ℕ) → low ≤ k → k ≤ size → k < low + length costs → slice_index costs (slot_of (length costs) k) ≡ slice_index whole k

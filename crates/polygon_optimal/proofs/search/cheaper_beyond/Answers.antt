@@ -1,4 +1,4 @@
-use Rattle.std.proofs.Common.{◌≡◌, ℕ, ◌+◌, ap, ◌∙◌, sym, refl, arith}
+use Rattle.std.proofs.Common.{◌≡◌, ℕ, ◌+◌, length, ap, ◌∙◌, sym, refl, arith}
 use Rattle.std.specs.Prelude.{slice_index}
 use Rattle.pt_core.specs.ClosedWalk.{point_at}
 use Rattle.prefix_moments.proofs.Rows.{listed, listed_on_page}
@@ -17,7 +17,7 @@ loop-to-init c =
       from = refl;
       to = refl;
       within = omega (arith, c.requires.some);
-      tried = tried_none (λ k. penalty_of s.moments.now segment.from k + slice_index costs (slot_of k)) (segment.to + 1) c.args.best;
+      tried = tried_none (λ k. penalty_of s.moments.now segment.from k + slice_index costs (slot_of (length costs) k)) (segment.to + 1) c.args.best;
     }
 
 pub loop-to-preserved : goal.loop-to-preserved
@@ -34,7 +34,7 @@ loop-to-preserved c =
       from = is.from ∙ so_far.from;
       to = ap (λ n. n + 1) here;
       within = omega (arith, c.loop-to-test.true);
-      tried = tried_by (λ k. penalty_of s.moments.now segment.from k + slice_index costs (slot_of k)) (segment.to + 1) to c.longer_by-grown.result.to _
+      tried = tried_by (λ k. penalty_of s.moments.now segment.from k + slice_index costs (slot_of (length costs) k)) (segment.to + 1) to c.longer_by-grown.result.to _
           c.args.best c.loop-to.cheapest c.cheaper_by-cheapest.result (omega arith) here
           (worth_is (penalty_of s.moments.now) costs segment.from to c.longer_by-grown.result.from c.longer_by-grown.result.to c.slot.result
           (is.from ∙ so_far.from) here c.slot.ensures)

@@ -1,4 +1,4 @@
-use Rattle.std.proofs.Common.{◌≡◌, ◌+◌, ◌≤◌}
+use Rattle.std.proofs.Common.{◌≡◌, ◌+◌, ◌≤◌, length}
 use Rattle.std.specs.Prelude.{slice_index}
 use Rattle.polygon_optimal.specs.Polygon.{penalty_of}
 use Rattle.polygon_optimal.specs.Inner.Search.{IsCheaperIn, slot_of}
@@ -10,5 +10,5 @@ invariant-loop-to l = record {
   from : l.grown.from ≡ l.segment.from;
   to : l.grown.to + 1 ≡ l.to;
   within : l.to ≤ l.stop;
-  tried : IsCheaperIn (λ k. penalty_of l.segments.moments.now l.segment.from k + slice_index l.costs (slot_of k)) (l.segment.to + 1) l.to l.fn.best l.cheapest;
+  tried : IsCheaperIn (λ k. penalty_of l.segments.moments.now l.segment.from k + slice_index l.costs (slot_of (length l.costs) k)) (l.segment.to + 1) l.to l.fn.best l.cheapest;
 }

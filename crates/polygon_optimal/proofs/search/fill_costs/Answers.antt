@@ -1,5 +1,7 @@
-use Rattle.std.proofs.Common.{◌≡◌, ℕ, List, length, ap, sym, ◌∙◌, subst, arith}
+use Rattle.std.proofs.Common.{◌≡◌, ℕ, ◌<◌, List, length, ap, sym, ◌∙◌, subst, arith}
+use Rattle.std.proofs.Math.Nat.{zero-mod}
 use Rattle.std.proofs.lemmas.List.{length-set}
+use Rattle.std.specs.Prelude.{slice_index}
 use Rattle.least_walk.specs.Inner.MarkedPlaces.{IsPlace}
 use Rattle.least_walk.specs.Inner.Suffix.{HasNexts, IsLeastCost}
 use Rattle.least_walk.proofs.Places.{place_at_start}
@@ -8,7 +10,7 @@ use Rattle.polygon_optimal.specs.Polygon.{penalty_of}
 use Rattle.polygon_optimal.specs.Inner.Search.{AreKept, BeginsWindow, counts_of, slot_of}
 use Rattle.polygon_optimal.proofs.Counting.{counted}
 use Rattle.polygon_optimal.proofs.Opening.{begins_at_end, begins_at_start}
-use Rattle.polygon_optimal.proofs.Slots.{kept_at_end}
+use Rattle.polygon_optimal.proofs.Slots.{kept_at_end, slot_below, some_slots}
 use Rattle.polygon_optimal.proofs.search.fill_costs.Goals as goal
 
 -- from the end on nothing is left to pay, and no segment is left
@@ -21,10 +23,10 @@ loop-window-init c =
     let known = counted size lasts s.onwards s.rising in
     let end : c.len-size.result ≡ size = omega (arith, s.places) in
     record {
-      slots = λ k most. omega (arith, c.requires.slots k most, length-set c.args.costs.now c.slot.result 0);
       begin = begins_at_end size lasts counts known _ _ (omega (arith, c.requires.windows.count)) end;
       costs = kept_at_end size (IsUpToLast lasts) (penalty_of s.moments.now) c.args.costs.now c.len-size.result c.slot.result end
-          (c.slot.ensures ∙ ap (λ n. slot_of n) end) (omega (arith, c.slot.ensures, c.requires.slots c.len-size.result (omega arith)));
+          (c.slot.ensures ∙ ap (λ n. slot_of (length c.args.costs.now) n) end)
+          (omega (arith, c.slot.ensures, slot_below (length c.args.costs.now) c.len-size.result c.requires.slots.power));
       nexts = λ k above below place. absurd (omega arith);
     }
 
@@ -43,8 +45,11 @@ returns-clause-cost c =
     let start = begun size counts c.loop-window.window c.loop-window.begin (omega arith) c.loop-window.invariant.begin in
     let all = subst (λ n. AreKept size (IsUpToLast lasts) (penalty_of s.moments.now) n c.loop-window.costs) start c.loop-window.invariant.costs in
     let place : IsPlace size (IsUpToLast lasts) 0 = (0, place_at_start size (IsUpToLast lasts) counts known.fewest) in
-    subst (IsLeastCost size (IsUpToLast lasts) (penalty_of s.moments.now) 0) (sym (all.kept 0 (omega arith) (omega arith) (omega arith)))
-    (all.are 0 (omega arith) (omega arith) place)
+    let some : 0 < length c.loop-window.costs =
+    omega (arith, c.loop-window.auto.costs, length-set c.args.costs.now c.slot.result 0, some_slots (length c.args.costs.now) c.requires.slots.power) in
+    let kept : slice_index c.loop-window.costs 0 ≡ slice_index all.whole 0 =
+    ap (slice_index c.loop-window.costs) (sym (zero-mod (length c.loop-window.costs))) ∙ all.kept 0 (omega arith) (omega arith) (omega (arith, some)) in
+    subst (IsLeastCost size (IsUpToLast lasts) (penalty_of s.moments.now) 0) (sym kept) (all.are 0 (omega arith) (omega arith) place)
 
 pub returns-clause-nexts : goal.returns-clause-nexts
 returns-clause-nexts c =

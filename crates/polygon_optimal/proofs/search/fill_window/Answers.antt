@@ -1,15 +1,14 @@
-use Rattle.std.proofs.Common.{◌≡◌, ℕ, ◌+◌, ◌-◌, ◌<◌, length, inl, inr, subst, arith}
+use Rattle.std.proofs.Common.{◌≡◌, ℕ, ◌+◌, ◌-◌, ◌<◌, length, inl, inr, subst, sym, arith}
 use Rattle.std.proofs.lemmas.Bool.{cases_lt}
-use Rattle.std.proofs.lemmas.List.{length-set}
 use Rattle.std.specs.Prelude.{slice_index}
 use Rattle.least_walk.specs.Inner.Suffix.{HasNexts}
 use Rattle.least_walk.proofs.Filling.{nexts_more}
 use Rattle.polygon_optimal.specs.Inner.Lasts.{IsUpToLast}
 use Rattle.polygon_optimal.specs.Polygon.{penalty_of}
-use Rattle.polygon_optimal.specs.Inner.Search.{AreKept, counts_of}
+use Rattle.polygon_optimal.specs.Inner.Search.{AreEnoughSlots, AreKept, counts_of}
 use Rattle.polygon_optimal.proofs.Counting.{last_of}
 use Rattle.polygon_optimal.proofs.Opening.{far_before, far_below, none_between}
-use Rattle.polygon_optimal.proofs.Slots.{kept_down, kept_more}
+use Rattle.polygon_optimal.proofs.Slots.{kept_down, kept_more, slot_below}
 use Rattle.polygon_optimal.proofs.Stepping.{before_end_too, begins_above, kept_best, kept_small, next_down, windows}
 use Rattle.polygon_optimal.proofs.search.fill_window.Goals as goal
 
@@ -31,7 +30,6 @@ loop-first-init c =
     record {
       near = omega arith;
       inside = λ h. absurd (omega arith);
-      slots = c.requires.slots;
       costs = kept_down size (IsUpToLast lasts) (penalty_of s.moments.now) c.args.costs.now gap (far + 1) (omega arith) later
           (λ k above low. none k above (omega arith));
       nexts = λ k above low place. elim (cases_lt k c.args.begin) [
@@ -105,7 +103,8 @@ cheapest_from-onward-requires-clause-small c =
     let next = next_down size lasts counts c.args.farthest.now c.args.window c.args.begin w c.loop-first.first (omega arith) c.loop-first.invariant.near
     (omega (arith, c.if-begin-index.true, last)) in
     let later = subst (λ n. AreKept size (IsUpToLast lasts) (penalty_of s.moments.now) n c.loop-first.costs) next.low c.loop-first.invariant.costs in
-    kept_small size lasts counts w.known (penalty_of s.moments.now) (record { few = s.few; each = s.cheap }) c.loop-first.costs i c.args.begin next.here later
+    let slots = subst (AreEnoughSlots size lasts) (sym c.loop-first.auto.costs) c.requires.slots in
+    kept_small size lasts counts w.known (penalty_of s.moments.now) (record { few = s.few; each = s.cheap }) c.loop-first.costs i c.args.begin next.here slots later
 
 pub loop-first-preserved : goal.loop-first-preserved
 loop-first-preserved c =
@@ -123,14 +122,14 @@ loop-first-preserved c =
     (omega (arith, c.if-begin-index.true, last)) in
     let later = subst (λ n. AreKept size (IsUpToLast lasts) (penalty_of s.moments.now) n c.loop-first.costs) next.low c.loop-first.invariant.costs in
     let nexts = subst (λ n. HasNexts size (IsUpToLast lasts) (penalty_of s.moments.now) n c.loop-first.nexts) next.low c.loop-first.invariant.nexts in
+    let slots = subst (AreEnoughSlots size lasts) (sym c.loop-first.auto.costs) c.requires.slots in
     let (cost, next_is) = kept_best size lasts counts w.known (penalty_of s.moments.now) (record { few = s.few; each = s.cheap }) c.loop-first.costs i c.args.begin
-    next.here later c.cheapest_from-onward.result c.cheapest_from-onward.ensures in
-    let cost_room : c.slot.result < length c.loop-first.costs = omega (arith, c.slot.ensures, c.loop-first.invariant.slots i (omega arith)) in
+    next.here slots later c.cheapest_from-onward.result c.cheapest_from-onward.ensures in
+    let cost_room : c.slot.result < length c.loop-first.costs = omega (arith, c.slot.ensures, slot_below (length c.loop-first.costs) i slots.power) in
     let next_room : i < length c.loop-first.nexts = omega (arith, c.loop-first.auto.nexts, c.requires.next_places) in
     record {
       near = omega (arith, c.loop-first.invariant.near);
       inside = λ h. next.left;
-      slots = λ k most. omega (arith, c.loop-first.invariant.slots k most, length-set c.loop-first.costs c.slot.result c.cheapest_from-onward.result.cost);
       costs = kept_more size (IsUpToLast lasts) (penalty_of s.moments.now) c.loop-first.costs i c.slot.result c.cheapest_from-onward.result.cost
           inside c.slot.ensures cost_room later cost;
       nexts = nexts_more size (IsUpToLast lasts) (penalty_of s.moments.now) i c.loop-first.nexts c.cheapest_from-onward.result.next next_room nexts next_is;

@@ -3,7 +3,7 @@ use Rattle.std.specs.Prelude.{slice_index}
 use Rattle.least_walk.specs.Inner.Suffix.{HasNexts}
 use Rattle.polygon_optimal.specs.Inner.Lasts.{IsUpToLast}
 use Rattle.polygon_optimal.specs.Polygon.{penalty_of}
-use Rattle.polygon_optimal.specs.Inner.Search.{AreKept, HasSlots, counts_of}
+use Rattle.polygon_optimal.specs.Inner.Search.{AreKept, counts_of}
 use Rattle.polygon_optimal.proofs.search.fill_window.Given as goal
 
 -- what is known from the point on, which is in the window, or the next one after it
@@ -15,7 +15,6 @@ invariant-loop-first l =
     record {
       near : l.first ≤ slice_index l.farthest l.window + 1;
       inside : l.first ≤ slice_index l.farthest l.window → slice_index counts l.first ≡ slice_index counts l.begin + 1;
-      slots : HasSlots (length points) l.costs;
       costs : AreKept (length points) (IsUpToLast lasts) (penalty_of points) l.first l.costs;
       nexts : HasNexts (length points) (IsUpToLast lasts) (penalty_of points) l.first l.nexts;
     }

@@ -1,11 +1,12 @@
 use Rattle.std.proofs.Common.{◌≡◌, ℕ, ◌-◌, List, length, sym, ◌∙◌, subst, arith}
 use Rattle.std.specs.Prelude.{slice_index}
+use Rattle.std.proofs.lemmas.List.{length-take-le}
 use Rattle.least_walk.specs.Inner.Suffix.{HasNexts, IsFewestFrom}
 use Rattle.least_walk.proofs.Going.{fewest_below}
 use Rattle.least_walk.proofs.Lists.{whole}
 use Rattle.polygon_optimal.specs.Inner.Lasts.{IsUpToLast}
 use Rattle.polygon_optimal.specs.Polygon.{penalty_of}
-use Rattle.polygon_optimal.specs.Inner.Search.{counts_of}
+use Rattle.polygon_optimal.specs.Inner.Search.{AreEnoughSlots, counts_of}
 use Rattle.polygon_optimal.proofs.Counting.{counts_fewest}
 use Rattle.polygon_optimal.proofs.search.least_by_windows.Goals as goal
 
@@ -46,6 +47,9 @@ walk_along-requires-clause-next_places c = omega (arith, c.deref-2.ensures.len, 
 pub overflow_add-places : goal.overflow_add-places
 overflow_add-places c = omega (arith, c.len-places.ensures, c.args.segments.now.places, c.args.segments.now.few)
 
+-- the list of costs that is lent has just so many places as are enough
 pub fill_costs-requires-clause-slots : goal.fill_costs-requires-clause-slots
-fill_costs-requires-clause-slots c = λ k most.
-    omega (arith, c.deref_mut.ensures.len, c.in_ok-make_places.ensures, c.min.ensures, c.len-places.ensures, c.args.segments.now.places)
+fill_costs-requires-clause-slots c =
+    let s = c.args.segments.now in
+    let taken = length-take-le c.enough_slots-slots.result c.deref_mut.result.now (omega (arith, c.deref_mut.ensures.len, c.in_ok-make_places.ensures)) in
+    subst (AreEnoughSlots (length s.moments.now) s.lasts.items) (sym taken) c.enough_slots-slots.ensures.enough

@@ -1,4 +1,4 @@
-use Rattle.std.proofs.Common.{◌≡◌, ℕ, ◌+◌, List, refl, ap, subst, arith}
+use Rattle.std.proofs.Common.{◌≡◌, ℕ, ◌+◌, List, length, refl, ap, subst, arith}
 use Rattle.std.specs.Prelude.{slice_index, slice_index_or}
 use Rattle.pt_core.specs.declared.point.Point.{Point}
 use Rattle.prefix_moments.specs.Sums.{IsPenalty}
@@ -16,5 +16,5 @@ returns c =
     let to : ℕ = c.args.segment.now.to in
     let P : List Point → Type 0 = λ points. IsPenalty points from to c.penalty_by.result in
     let penalty = penalty_is_one points from to c.penalty_by.result (subst P c.requires.segment c.penalty_by.ensures) in
-    let rest : slice_index_or costs c.slot.result 0 ≡ slice_index costs (slot_of to) = ap (λ n. slice_index_or costs n 0) c.slot.ensures in
-    alone (λ k. penalty_of points from k + slice_index costs (slot_of k)) to _ (omega (arith, penalty, rest)) refl
+    let rest : slice_index_or costs c.slot.result 0 ≡ slice_index costs (slot_of (length costs) to) = ap (λ n. slice_index_or costs n 0) c.slot.ensures in
+    alone (λ k. penalty_of points from k + slice_index costs (slot_of (length costs) k)) to _ (omega (arith, penalty, rest)) refl
