@@ -16,7 +16,7 @@ use straight_paths::Reach;
 #[derive(Drop)]
 pub(crate) struct WalkSegments<'a> {
     pub(crate) moments: &'a Moments<'a>,
-    reach: Reach,
+    reach: Reach<'a>,
     pub(crate) size: usize,
     ghost some: { 1 ≤ length moments.now },
     ghost few: { length moments.now ≤ 2 ^ 31 },
@@ -31,7 +31,7 @@ impl<'a> WalkSegments<'a> {
     /// Measures a closed walk on a page, by the sums that are made of it.
     pub(crate) fn of(
         alloc: Global,
-        points: &[Point],
+        points: &'a [Point],
         moments: &'a Moments<'a>,
     ) -> Result<WalkSegments<'a>, NoMemory>
         requires closed { IsClosedWalk points.now }
