@@ -435,7 +435,7 @@ fn run_back(
 {
     let limit = track.limit();
     let mut index = from;
-    while index > lap && track.step(index - 1).is_same(step) {
+    while index > lap && track.goes_straight(index - 1) {
         index -= 1;
         steps[index - lap] = min(tail.end - index, limit) as u32;
     }

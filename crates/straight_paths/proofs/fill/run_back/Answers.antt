@@ -1,7 +1,8 @@
-use Rattle.std.proofs.Common.{◌≡◌, ◌+◌, ◌-◌, ℕ, min, sym, ◌∙◌, subst, rules, arith}
+use Rattle.std.proofs.Common.{◌≡◌, ◌+◌, ◌-◌, ℕ, min, subst, rules, arith}
 use Rattle.straight_paths.specs.Inner.Sweeps.{AreEndsFrom, IsEnd, IsSeen}
 use Rattle.straight_paths.specs.Inner.Tails.{limit_of}
 use Rattle.straight_paths.proofs.Runs.{IsSeenAlong, along_at_first, along_earlier, end_along, seen_by}
+use Rattle.straight_paths.proofs.Turns.{step_before}
 use Rattle.straight_paths.proofs.Windows.{one_more}
 use Rattle.straight_paths.proofs.fill.run_back.Goals as goal
 
@@ -14,12 +15,13 @@ loop-index-init c =
     c.requires.step c.requires.seen in
     record {
       index = omega arith;
+      step = c.requires.step;
       along = subst (λ (n : ℕ). IsSeenAlong points c.args.last c.args.strip c.args.tail.ahead c.args.step n c.args.from) e along;
       ends = c.requires.ends;
     }
 
-pub step-requires : goal.step-requires
-step-requires c =
+pub goes_straight-requires : goal.goes_straight-requires
+goes_straight-requires c =
     let some = c.loop-index-test.true in
     let low = c.loop-index.invariant.index in
     let order = c.requires.seen.tail.ahead.order in
@@ -37,7 +39,7 @@ loop-index-preserved c =
     let e : c.loop-index.index ≡ index + 1 = omega arith in
     let limit = c.limit-limit.ensures.value in
     let end = min c.args.tail.end (index + limit_of points) in
-    let is = sym (c.is_same.ensures.0 c.if-is_same.true) ∙ c.step.ensures.value in
+    let is = step_before points index c.loop-index.index c.args.step e inv.step (c.goes_straight.ensures.0 c.if-goes_straight.true) in
     let later = subst (λ (n : ℕ). IsSeenAlong points c.args.last c.args.strip c.args.tail.ahead c.args.step (min c.args.tail.end (n + limit_of points)) n) e inv.along in
     let along = along_earlier points c.limit-limit.ensures.closed c.args.last index (min c.args.tail.end (index + 1 + limit_of points)) end c.args.strip
     c.args.tail.ahead c.args.step is c.requires.keeps later (omega arith) in
@@ -45,6 +47,7 @@ loop-index-preserved c =
     let e_told : end - index ≡ c.min.result = omega arith in
     record {
       index = omega arith;
+      step = is;
       along = along;
       ends = one_more points c.args.last c.args.lap index c.min.result c.loop-index.steps
           (subst (λ (n : ℕ). AreEndsFrom points c.args.last c.args.lap n c.loop-index.steps) e inv.ends) (omega arith)
