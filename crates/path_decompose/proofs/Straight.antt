@@ -10,7 +10,7 @@ use Rattle.path_decompose.specs.GridEdges.{GridEdge}
 use Rattle.path_decompose.specs.Inside.{line_between, lines_of}
 use Rattle.path_decompose.specs.Inner.Blocks.{spread, AreBlocks}
 use Rattle.path_decompose.specs.Inner.BoundaryBits.{has_edge, is_along}
-use Rattle.path_decompose.specs.Inner.Taken.{IsTowards, AreWordsFor, lines_from, is_along_any, AreTakenBy, AreTaken}
+use Rattle.path_decompose.specs.Inner.Taken.{IsTowards, AreWordsFor, lines_from, is_along_any, AreTakenBy, AreTakenAway}
 use Rattle.path_decompose.proofs.Corners.{lines_to-drop, lines_to-end, lines_of-drop}
 use Rattle.path_decompose.proofs.EdgeBits.{or_false}
 use Rattle.path_decompose.proofs.LineSpots.{step_at, unit_parts}
@@ -132,14 +132,14 @@ IsFar South p q = nat_abs p.y ≡ nat_abs q.y + 32
 IsFar West p q = nat_abs p.x ≡ nat_abs q.x + 32
 
 -- a stretch of a walk runs straight on with a heading
-pub record IsRun (heading : Dir) (points : List Point) (from to : ℕ) : Type 0 where
+pub record RunsStraight (heading : Dir) (points : List Point) (from to : ℕ) : Type 0 where
   pub end : to ≡ from + 32
   pub short : from + 32 < length points
   pub straight : (i : ℕ) → from ≤ i → i < from + 32 → IsTowards heading (get_or points i origin) (get_or points (i + 1) origin)
 
 -- the ends of a stretch tell whether it does
 pub run_of : (heading : Dir) (rows size : ℕ) (points : List Point) (from to : ℕ) → AreWordsFor points rows size → (from ≤ to) × (to ≤ from + 32) × (to < length points)
-    → IsFar heading (get_or points from origin) (get_or points to origin) → IsRun heading points from to
+    → IsFar heading (get_or points from origin) (get_or points to origin) → RunsStraight heading points from to
 run_of North rows size points from to words order far =
     let end : to ≡ from + 32 = far_rows rows size points from to words order.0 order.2 order.1 (inl far) in
     let short : from + 32 < length points = subst (λ j. j < length points) end order.2 in
@@ -172,9 +172,9 @@ neither true true b = refl
 neither true false b = refl
 neither false a b = refl
 
-pub taken_more : (rows : ℕ) (starts : List ℕ) (points : List Point) (i j : ℕ) (old words new : List ℕ) → AreTaken rows starts points i j old words → j + 1 < length points
+pub taken_more : (rows : ℕ) (starts : List ℕ) (points : List Point) (i j : ℕ) (old words new : List ℕ) → AreTakenAway rows starts points i j old words → j + 1 < length points
     → AreTakenBy rows starts (λ k u v. is_along k u v (line_between (get_or points j origin) (get_or points (j + 1) origin))) words new
-    → AreTaken rows starts points i (j + 1) old new
+    → AreTakenAway rows starts points i (j + 1) old new
 taken_more rows starts points i j old words new far short now =
     record {
       blocks = now.blocks;
@@ -189,15 +189,15 @@ taken_more rows starts points i j old words new far short now =
           ∙ far.edges k u v p;
     }
 
-pub taken_on : (rows : ℕ) (starts : List ℕ) (points : List Point) (i j h : ℕ) (old words new : List ℕ) → AreTaken rows starts points i j old words → AreTaken rows starts points j h words new → AreTaken rows starts points i h old new
+pub taken_on : (rows : ℕ) (starts : List ℕ) (points : List Point) (i j h : ℕ) (old words new : List ℕ) → AreTakenAway rows starts points i j old words → AreTakenAway rows starts points j h words new → AreTakenAway rows starts points i h old new
 taken_on rows starts points i j h old words new far more = record { blocks = more.blocks; edges = λ k u v p. more.edges k u v p ∙ far.edges k u v p }
 
 -- nothing is taken away yet
-pub none_taken : (rows : ℕ) (starts : List ℕ) (points : List Point) (i : ℕ) (words : List ℕ) → AreBlocks starts words → AreTaken rows starts points i i words words
+pub none_taken : (rows : ℕ) (starts : List ℕ) (points : List Point) (i : ℕ) (words : List ℕ) → AreBlocks starts words → AreTakenAway rows starts points i i words words
 none_taken rows starts points i words blocks = record { blocks = blocks; edges = λ k u v p. refl }
 
 -- the last line goes back to the first corner
-pub all_taken : (rows : ℕ) (starts : List ℕ) (points : List Point) (at last : ℕ) (old words new : List ℕ) → at ≡ last → last + 1 ≡ length points → AreTaken rows starts points 0 at old words
+pub all_taken : (rows : ℕ) (starts : List ℕ) (points : List Point) (at last : ℕ) (old words new : List ℕ) → at ≡ last → last + 1 ≡ length points → AreTakenAway rows starts points 0 at old words
     → AreTakenBy rows starts (λ k u v. is_along k u v (line_between (get_or points last origin) (get_or points 0 origin))) words new
     → AreTakenBy rows starts (is_along_any (lines_of points)) old new
 all_taken rows starts points at last old words new here end far now =
