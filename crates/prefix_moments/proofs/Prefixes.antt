@@ -1,6 +1,6 @@
 -- The sums of a path's first points, as they are kept.
 use Rattle.std.proofs.Common.{◌≡◌, ℕ, zero, suc, ◌+◌, ◌-◌, ◌*◌, ◌/◌, ◌%◌, ◌<◌, ◌≤◌, ◌^◌, ℤ, pos, negsuc, ◌+ℤ◌, ◌*ℤ◌, ◌≤ℤ◌, List, [], ◌∷◌, ◌++◌, length, get_or, refl, sym, ap, ◌∙◌, subst, add-one, arith}
-use Rattle.std.proofs.Math.Nat.{mod-add-mod, add-mod-mod, add-mod_left, mod-eq_of_lt, mod-lt, div-mul-le_self, le-div_iff_mul-le}
+use Rattle.std.proofs.Math.Nat.{mod-add-mod, add-mod-mod, add-mod_left, mod-eq_of_lt, mod-lt, le-div_iff_mul-le}
 use Rattle.std.proofs.Math.ListN.{get_or-append}
 use Rattle.std.proofs.Math.Seq.{get_or-append_seam}
 use Rattle.std.proofs.Math.Decide.{dec_lt}

@@ -163,10 +163,25 @@ impl<'p> Moments<'p> {
     }
 
     /// The sums over the first `k` points, of one lap at most.
+    #[inline(always)]
     fn row_in_lap(&self, k: usize) -> Prefix
         requires { k ≤ length self.now }
         ensures value { result ≡ prefix_of self.now k }
         ensures on_page { AreOnPage self.now }
+    {
+        if self.shift == 0 {
+            return self.rows[k];
+        }
+        self.row_between(k)
+    }
+
+    /// The same, where `k` may be between two rows.
+    //
+    // It isn't inlined, so that the sums of a short path are one look at its table.
+    #[inline(never)]
+    fn row_between(&self, k: usize) -> Prefix
+        requires { k ≤ length self.now }
+        ensures { result ≡ prefix_of self.now k }
     {
         let row = k >> self.shift;
         sums_to(self.points, row << self.shift, self.rows[row], k)

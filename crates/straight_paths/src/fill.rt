@@ -185,14 +185,18 @@ fn told_on(
 {
     let limit = track.limit() as u32;
     let mut at = At { index: from, node };
+    // Each point is looked up once: the later one of a step is the earlier one of the step before.
+    let mut there = track.point(from);
     while at.index > lap {
         let index = at.index - 1;
-        let next = table.told(at.node, direction(track.step(index)));
+        let here = track.point(index);
+        let next = table.told(at.node, direction(Vector::between(here, there)));
         if next == 0 {
             return at;
         }
         steps[index - lap] = min(table.count(next), limit);
         at = At { index, node: next };
+        there = here;
     }
     at
 }

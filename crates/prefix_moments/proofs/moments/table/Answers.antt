@@ -1,4 +1,4 @@
-use Rattle.std.proofs.Common.{◌≡◌, ◌+◌, ◌*◌, ◌/◌, ◌≤◌, ◌<◌, ◌^◌, ℕ, length, arith, sym, ◌∙◌, ap}
+use Rattle.std.proofs.Common.{◌≡◌, ◌+◌, ◌*◌, ◌/◌, ◌≤◌, ◌<◌, ◌^◌, ℕ, length, arith, ◌∙◌, ap}
 use Rattle.std.proofs.lemmas.Nat.{mul-le}
 use Rattle.prefix_moments.specs.Inner.Table.{prefix_of}
 use Rattle.prefix_moments.proofs.Prefixes.{row_begins, row_reaches, row_within, push_row}

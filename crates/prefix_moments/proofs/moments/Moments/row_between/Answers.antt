@@ -2,7 +2,7 @@ use Rattle.std.proofs.Common.{◌*◌, ◌/◌, ◌≤◌, ◌^◌, ℕ, length,
 use Rattle.std.proofs.Math.Nat.{div-mul-le_self}
 use Rattle.prefix_moments.specs.Inner.Table.{prefix_of}
 use Rattle.prefix_moments.proofs.Prefixes.{row_begins, row_is}
-use Rattle.prefix_moments.proofs.moments.Moments.row_in_lap.Goals as goal
+use Rattle.prefix_moments.proofs.moments.Moments.row_between.Goals as goal
 
 pub sums_to-requires-clause-before : goal.sums_to-requires-clause-before
 sums_to-requires-clause-before c =
