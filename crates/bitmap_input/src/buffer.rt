@@ -8,7 +8,10 @@ use std::alloc::Global;
 use std::marker::Model;
 
 /// The most bytes that are taken ahead of those that were used.
-pub(crate) const ROOM: usize = 65536;
+//
+// A quarter of what contracts allow: twelve pages of memory fewer are used for the first time, which costs a small page more
+// than the further calls of the system.
+pub(crate) const ROOM: usize = 16384;
 
 /// As many are taken first. Most small files have no more, and zeros for more would be a fifth of the work for them.
 const FIRST_ROOM: usize = 4096;
@@ -25,6 +28,7 @@ pub(crate) struct Buffer {
 impl Model for Buffer {
     ghost use Rattle.std.specs.Prelude.{◌≡◌, ◌<◌, ◌≤◌, ◌-◌, length, take, drop};
     ghost use Rattle.bitmap_input.specs.Reading.{Buffered};
+    ghost use Rattle.bitmap_input.specs.declared.buffer.TheConstants.{ROOM};
 
     ghost Value = { Buffered };
 
@@ -35,7 +39,7 @@ impl Model for Buffer {
     } };
 
     ghost invariant = { λ w. (w.start ≤ w.end) × (w.end ≤ length w.buf.items)
-        × (0 < length w.buf.items) × (length w.buf.items ≤ 65536) };
+        × (0 < length w.buf.items) × (length w.buf.items ≤ ROOM) };
 }
 
 /// What stands at the front of what is still to be used.

@@ -62,7 +62,7 @@ impl Model for GrayReader {
 }
 
 impl GrayReader {
-    /// A reader before the first byte of a file, with a buffer that grows to 65,536 bytes and room for the
+    /// A reader before the first byte of a file, with a buffer that grows to 16,384 bytes and room for the
     /// bytes of a row.
     pub fn new(alloc: Global) -> Result<GrayReader, NoMemory>
         ensures { IfOk result (λ reader. reader ≡ gray_at_start) }

@@ -74,7 +74,7 @@ fn read_ahead<I: Inputs>(
 }
 
 impl PageReader {
-    /// A reader before the first byte of a file, with a buffer that grows to 65,536 bytes.
+    /// A reader before the first byte of a file, with a buffer that grows to 16,384 bytes.
     pub fn new(alloc: Global) -> Result<PageReader, NoMemory>
         ensures { IfOk result (λ reader. reader ≡ at_start) }
     {
