@@ -22,7 +22,7 @@ ghost use Rattle.polygon_optimal.specs.Inner.Search.{AreEnoughSlots, AreKept, Ar
 use crate::room::{SearchRoom, make_places};
 use crate::segments::Segments;
 use least_walk::Walk;
-use prefix_moments::{Growing, Roots};
+use prefix_moments::{Growing, Receding, Roots};
 use pt_core::{NoMemory, Sequence};
 use std::alloc::Global;
 
@@ -210,52 +210,70 @@ fn fill_window(
     ensures nexts { HasNexts (length segments.now.moments.now) (IsUpToLast segments.now.lasts.items)
         (penalty_of segments.now.moments.now) result nexts.new }
 {
-    let mut first = farthest[window] + 1;
-    while first > 0 && begin <= segments.lasts[first as usize - 1] {
-        let guess = nexts[first as usize];
-        first -= 1;
-        let onward = cheapest_from(segments, first, begin, guess, costs, roots);
-        costs[slot(costs, first as usize)] = onward.cost;
-        nexts[first as usize] = onward.next;
+    let mut nearest = nearest_from(segments, farthest[window], begin);
+    'points: loop {
+        let first = nearest.from as usize;
+        let guess = nexts[first + 1];
+        let onward = cheapest_from(segments, nearest, guess, costs, roots);
+        costs[slot(costs, first)] = onward.cost;
+        nexts[first] = onward.next;
+        if first == 0 || segments.lasts[first - 1] < begin {
+            return nearest.from;
+        }
+        nearest = nearest.earlier_by(segments.points[first - 1]);
     }
-    first
 }
 
-/// The cheapest segment from a point into the next window, and of several the shortest.
+/// The segment from a point to the first one of the next window.
 //
-// A window is mostly narrow: the nearest point is looked up, and from there on one segment grows from point to point. The
-// walk's end is a window of its own and a point of its second lap, so nothing that is said of laps is asked later.
+// The walk's end is a window of its own and a point of its second lap.
+#[inline(always)]
+fn nearest_from<'a>(segments: &Segments<'a>, from: u32, begin: u32) -> Receding<'a>
+    requires from { from < length segments.now.moments.now }
+    requires onwards { from < begin }
+    requires reached { begin ≤ slice_index segments.now.lasts.items from }
+    ensures moments { result.moments.now ≡ segments.now.moments.now }
+    ensures from { result.from ≡ from }
+    ensures to { result.to ≡ begin }
+{
+    if begin as usize == segments.lasts.len() {
+        return Receding::between(segments.moments, from, begin);
+    }
+    Receding::in_lap(segments.moments, segments.points, from, begin)
+}
+
+/// The cheapest segment from a point into the next window, by the nearest one, and of several the shortest.
+//
+// A window is mostly narrow: from the nearest point on, one segment grows from point to point. The walk's end is a window
+// of its own, so nothing that is said of laps is asked later.
 fn cheapest_from(
     segments: &Segments,
-    from: u32,
-    begin: u32,
+    nearest: Receding,
     guess: u32,
     costs: &[u64],
     roots: &mut Roots,
 ) -> Onward
-    requires from { from < length segments.now.moments.now }
-    requires onwards { from < begin }
-    requires some { begin ≤ slice_index segments.now.lasts.items from }
-    requires lap { begin < length segments.now.moments.now
-        → slice_index segments.now.lasts.items from < length segments.now.moments.now }
+    requires nearest { nearest.moments.now ≡ segments.now.moments.now }
+    requires some { nearest.to ≤ slice_index segments.now.lasts.items nearest.from }
+    requires lap { nearest.to < length segments.now.moments.now
+        → slice_index segments.now.lasts.items nearest.from < length segments.now.moments.now }
     requires slots { IsPowerOfTwo (length costs.now) }
-    requires small { (k : ℕ) → begin ≤ k → k ≤ slice_index segments.now.lasts.items from
+    requires small { (k : ℕ) → nearest.to ≤ k → k ≤ slice_index segments.now.lasts.items nearest.from
         → slice_index costs.now (slot_of (length costs.now) k) < 2 ^ 56 }
     ensures { HasCheapest
-        (λ k. penalty_of segments.now.moments.now from k + slice_index costs.now (slot_of (length costs.now) k))
-        begin (slice_index segments.now.lasts.items from + 1) result }
+        (λ k. penalty_of segments.now.moments.now nearest.entry.from k + slice_index costs.now (slot_of (length costs.now) k))
+        nearest.entry.to (slice_index segments.now.lasts.items nearest.entry.from + 1) result }
 {
-    if begin as usize == segments.lasts.len() {
-        let whole = Growing::between(segments.moments, from, begin);
-        return onward_by(segments, &whole, costs, roots);
+    let last = segments.lasts[nearest.from as usize];
+    if last - nearest.to >= WIDE {
+        return cheapest_by_guess(segments, nearest, guess, costs, roots);
     }
-    let last = segments.lasts[from as usize];
-    if last - begin >= WIDE {
-        return cheapest_by_guess(segments, from, begin, guess, costs, roots);
+    let segment = Growing::of(nearest);
+    let first = onward_by(segments, &segment, costs, roots);
+    if last == nearest.to {
+        return first;
     }
-    let nearest = Growing::in_lap(segments.moments, segments.points, from, begin);
-    let first = onward_by(segments, &nearest, costs, roots);
-    cheaper_beyond(segments, &nearest, last + 1, costs, first, false, roots)
+    cheaper_beyond(segments, &segment, last + 1, costs, first, false, roots)
 }
 
 /// The same in a wide window before the walk's end.
@@ -265,25 +283,24 @@ fn cheapest_from(
 #[inline(never)]
 fn cheapest_by_guess(
     segments: &Segments,
-    from: u32,
-    begin: u32,
+    nearest: Receding,
     guess: u32,
     costs: &[u64],
     roots: &mut Roots,
 ) -> Onward
-    requires from { from < length segments.now.moments.now }
-    requires onwards { from < begin }
-    requires some { begin ≤ slice_index segments.now.lasts.items from }
-    requires lap { slice_index segments.now.lasts.items from < length segments.now.moments.now }
+    requires nearest { nearest.moments.now ≡ segments.now.moments.now }
+    requires some { nearest.to ≤ slice_index segments.now.lasts.items nearest.from }
+    requires lap { slice_index segments.now.lasts.items nearest.from < length segments.now.moments.now }
     requires slots { IsPowerOfTwo (length costs.now) }
-    requires small { (k : ℕ) → begin ≤ k → k ≤ slice_index segments.now.lasts.items from
+    requires small { (k : ℕ) → nearest.to ≤ k → k ≤ slice_index segments.now.lasts.items nearest.from
         → slice_index costs.now (slot_of (length costs.now) k) < 2 ^ 56 }
     ensures { HasCheapest
-        (λ k. penalty_of segments.now.moments.now from k + slice_index costs.now (slot_of (length costs.now) k))
-        begin (slice_index segments.now.lasts.items from + 1) result }
+        (λ k. penalty_of segments.now.moments.now nearest.entry.from k + slice_index costs.now (slot_of (length costs.now) k))
+        nearest.entry.to (slice_index segments.now.lasts.items nearest.entry.from + 1) result }
 {
+    let from = nearest.from;
     let last = segments.lasts[from as usize];
-    let to = guess.max(begin).min(last);
+    let to = guess.max(nearest.to).min(last);
     let guessed = Growing::in_lap(segments.moments, segments.points, from, to);
     let tried = onward_by(segments, &guessed, costs, roots);
     // A nearer one that costs as much is better.
@@ -291,10 +308,10 @@ fn cheapest_by_guess(
         cost: tried.cost + 1,
         next: to,
     };
-    let nearest = Growing::in_lap(segments.moments, segments.points, from, begin);
-    let rest = costs[slot(costs, begin as usize)];
-    let first = cheaper_by(segments, &nearest, rest, bound, false, roots);
-    cheaper_far_beyond(segments, &nearest, last + 1, costs, first, roots)
+    let segment = Growing::of(nearest);
+    let rest = costs[slot(costs, nearest.to as usize)];
+    let first = cheaper_by(segments, &segment, rest, bound, false, roots);
+    cheaper_far_beyond(segments, &segment, last + 1, costs, first, roots)
 }
 
 /// This segment, and what the polygon costs from it on.

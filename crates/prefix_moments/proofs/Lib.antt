@@ -1,4 +1,5 @@
 pub mod Cornered
+pub mod Earlier
 pub mod Examples
 pub mod Fitting
 pub mod Integers

@@ -26,18 +26,21 @@ raw_same r s x y xx xy yy =
     ap (λ v. raw v r.y r.xx r.xy r.yy) x ∙ ap (λ v. raw s.x v r.xx r.xy r.yy) y ∙ ap (λ v. raw s.x s.y v r.xy r.yy) xx
     ∙ ap (λ v. raw s.x s.y s.xx v r.yy) xy ∙ ap (λ v. raw s.x s.y s.xx s.xy v) yy
 
--- the sums of some points on a page are small
+-- the sums of some points are small that lie no farther from (0, 0) than a page's corner
+pub raw_small : (at : ℕ → Point) (count : ℕ) → ((k : ℕ) → unsigned_abs ((at k).x) ≤ LONGEST_SIDE) → ((k : ℕ) → unsigned_abs ((at k).y) ≤ LONGEST_SIDE)
+    → IsRawOf count (raw_of at count)
+raw_small at count x y = record {
+  x = sum_most (λ k. (at k).x) LONGEST_SIDE count x;
+  y = sum_most (λ k. (at k).y) LONGEST_SIDE count y;
+  xx = sum_most (λ k. (at k).x *ℤ (at k).x) (LONGEST_SIDE * LONGEST_SIDE) count (λ k. product_most ((at k).x) ((at k).x) LONGEST_SIDE LONGEST_SIDE (x k) (x k));
+  xy = sum_most (λ k. (at k).x *ℤ (at k).y) (LONGEST_SIDE * LONGEST_SIDE) count (λ k. product_most ((at k).x) ((at k).y) LONGEST_SIDE LONGEST_SIDE (x k) (y k));
+  yy = sum_most (λ k. (at k).y *ℤ (at k).y) (LONGEST_SIDE * LONGEST_SIDE) count (λ k. product_most ((at k).y) ((at k).y) LONGEST_SIDE LONGEST_SIDE (y k) (y k));
+}
+
+-- so are those of points on a page
 pub raw_most : (at : ℕ → Point) (count : ℕ) → ((k : ℕ) → IsOnPage (at k)) → IsRawOf count (raw_of at count)
 raw_most at count on_page =
-    let x : (k : ℕ) → unsigned_abs ((at k).x) ≤ LONGEST_SIDE = λ k. (let p = on_page k in omega (arith, ints)) in
-    let y : (k : ℕ) → unsigned_abs ((at k).y) ≤ LONGEST_SIDE = λ k. (let p = on_page k in omega (arith, ints)) in
-    record {
-      x = sum_most (λ k. (at k).x) LONGEST_SIDE count x;
-      y = sum_most (λ k. (at k).y) LONGEST_SIDE count y;
-      xx = sum_most (λ k. (at k).x *ℤ (at k).x) (LONGEST_SIDE * LONGEST_SIDE) count (λ k. product_most ((at k).x) ((at k).x) LONGEST_SIDE LONGEST_SIDE (x k) (x k));
-      xy = sum_most (λ k. (at k).x *ℤ (at k).y) (LONGEST_SIDE * LONGEST_SIDE) count (λ k. product_most ((at k).x) ((at k).y) LONGEST_SIDE LONGEST_SIDE (x k) (y k));
-      yy = sum_most (λ k. (at k).y *ℤ (at k).y) (LONGEST_SIDE * LONGEST_SIDE) count (λ k. product_most ((at k).y) ((at k).y) LONGEST_SIDE LONGEST_SIDE (y k) (y k));
-    }
+    raw_small at count (λ k. (let p = on_page k in omega (arith, ints))) (λ k. (let p = on_page k in omega (arith, ints)))
 
 -- so are those of fewer points
 pub raw_more : (r : RawSums) (count most : ℕ) → count ≤ most → IsRawOf count r → IsRawOf most r
@@ -48,7 +51,8 @@ sums_same r s count x y xx xy yy =
     ap (λ v. sums v r.x r.y r.xx r.xy r.yy) count ∙ ap (λ v. sums s.count v r.y r.xx r.xy r.yy) x ∙ ap (λ v. sums s.count s.x v r.xx r.xy r.yy) y
     ∙ ap (λ v. sums s.count s.x s.y v r.xy r.yy) xx ∙ ap (λ v. sums s.count s.x s.y s.xx v r.yy) xy ∙ ap (λ v. sums s.count s.x s.y s.xx s.xy v) yy
 
-products_by : (f g : ℕ → ℤ) (a b : ℤ) (count : ℕ)
+-- the sums of products of offsets from two numbers, as they are worked out
+pub products_by : (f g : ℕ → ℤ) (a b : ℤ) (count : ℕ)
     → (sum_of (λ d. f d *ℤ g d) count -ℤ a *ℤ sum_of g count) -ℤ b *ℤ (sum_of f count -ℤ pos count *ℤ a)
     ≡ sum_of (λ d. (f d -ℤ a) *ℤ (g d -ℤ b)) count
 products_by f g a b count =

@@ -9,6 +9,7 @@ ghost use Rattle.prefix_moments.specs.Sums.{above_of, rightward_of, spread_of, s
 
 use crate::moments::{Moments, between};
 use crate::raw::offset_product;
+use crate::receding::Receding;
 use crate::roots::Roots;
 use crate::start::{is_reached, mean_root};
 use pt_core::{LONGEST_SIDE, MOST_STEPS, Point};
@@ -48,6 +49,30 @@ pub struct Growing<'a> {
 }
 
 impl<'a> Growing<'a> {
+    /// The same segment as one that grows at its start.
+    #[inline(always)]
+    pub fn of(segment: Receding<'a>) -> Growing<'a>
+        ensures moments { result.moments.now ≡ segment.entry.moments.now }
+        ensures from { result.from ≡ segment.entry.from }
+        ensures to { result.to ≡ segment.entry.to }
+    {
+        let first = segment.first;
+        let last = segment.last;
+        let sums = segment.sums;
+        Growing {
+            moments: segment.moments,
+            from: segment.from,
+            to: segment.to,
+            first,
+            count: u64::from(sums.count),
+            right: between(first.x, last.x),
+            above: between(first.y, last.y),
+            xx: sums.xx,
+            xy: sums.xy,
+            yy: sums.yy,
+        }
+    }
+
     /// The segment from point number `from` to number `to`.
     pub fn between(moments: &'a Moments<'a>, from: u32, to: u32) -> Growing<'a>
         requires on_page { AreOnPage moments.now }
@@ -59,21 +84,7 @@ impl<'a> Growing<'a> {
         ensures from { result.from ≡ from }
         ensures to { result.to ≡ to }
     {
-        let sums = moments.sums(from, to);
-        let first = moments.place(from);
-        let last = moments.place(to);
-        Growing {
-            moments,
-            from,
-            to,
-            first,
-            count: u64::from(to - from + 1),
-            right: between(first.x, last.x),
-            above: between(first.y, last.y),
-            xx: sums.xx,
-            xy: sums.xy,
-            yy: sums.yy,
-        }
+        Growing::of(Receding::between(moments, from, to))
     }
 
     /// The same, where both points are in the first lap, by the list of the path's points.
@@ -88,21 +99,7 @@ impl<'a> Growing<'a> {
         ensures from { result.from ≡ from }
         ensures to { result.to ≡ to }
     {
-        let first = points[from as usize];
-        let last = points[to as usize];
-        let sums = moments.sums_in_lap(first, from, to);
-        Growing {
-            moments,
-            from,
-            to,
-            first,
-            count: u64::from(to - from + 1),
-            right: between(first.x, last.x),
-            above: between(first.y, last.y),
-            xx: sums.xx,
-            xy: sums.xy,
-            yy: sums.yy,
-        }
+        Growing::of(Receding::in_lap(moments, points, from, to))
     }
 
     /// The same segment with one point more.

@@ -8,6 +8,7 @@ pub mod growing;
 pub mod moments;
 mod prefix;
 mod raw;
+pub mod receding;
 pub mod room;
 pub mod roots;
 pub mod start;
@@ -15,6 +16,7 @@ pub mod sums;
 
 pub use growing::Growing;
 pub use moments::Moments;
+pub use receding::Receding;
 pub use room::MomentsRoom;
 pub use roots::Roots;
 pub use start::Start;

@@ -307,8 +307,9 @@ pub(crate) fn between(from: i32, to: i32) -> i64
     i64::from(to) - i64::from(from)
 }
 
-/// The sums of the offsets of `count` points from the first of them, which is at (`x0`, `y0`).
-fn offsets(raw: RawSums, count: u32, x0: i64, y0: i64) -> Sums
+/// The sums of the offsets of `count` points from (`x0`, `y0`).
+#[inline(always)]
+pub(crate) fn offsets(raw: RawSums, count: u32, x0: i64, y0: i64) -> Sums
     requires count { count ≤ MOST_STEPS + 1 }
     requires raw { IsRawOf (MOST_STEPS + 1) raw }
     requires x0 { unsigned_abs x0 ≤ LONGEST_SIDE }

@@ -76,6 +76,16 @@ offsets_of r count x y = record {
   yy = (r.yy -ℤ y *ℤ r.y) -ℤ y *ℤ (r.y -ℤ pos count *ℤ y);
 }
 
+-- the sums without the number of points
+abbrev pub without_count : Sums → RawSums
+without_count s = record { x = s.x; y = s.y; xx = s.xx; xy = s.xy; yy = s.yy }
+
+-- the sums of a segment's offsets with one point more, which becomes the first: it lies at (x, y) from the one that was
+abbrev pub with_first_of : Sums → ℤ → ℤ → Sums
+with_first_of s x y =
+    let moved = offsets_of (without_count s) s.count x y in
+    record { count = s.count + 1; x = moved.x; y = moved.y; xx = moved.xx; xy = moved.xy; yy = moved.yy }
+
 -- the sum of the squared cross products of some offsets with one offset, by the sums of their
 -- squares and products
 abbrev pub spread_by : ℤ → ℤ → ℤ → ℤ → ℤ → ℤ
