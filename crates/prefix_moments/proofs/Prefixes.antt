@@ -196,14 +196,6 @@ pub row_is : (points : List Point) (shift : ℕ) (rows : List Prefix) → IsTabl
 row_is points shift rows t m r within e =
     get_or_read rows _ _ (omega (arith, t.lap, row_within (length points) shift m within)) e no_prefix ∙ t.each m within
 
--- one that was read where each point has a row
-pub dense_row_is : (points : List Point) (shift : ℕ) (rows : List Prefix) → IsTable points shift rows → shift ≡ 0 → (k : ℕ) (r : Prefix) → k ≤ length points
-    → r ≡ get_or rows k r → r ≡ prefix_of points k
-dense_row_is points shift rows t dense k r within e =
-    let P : ℕ → Type 0 = λ s. IsTable points s rows in
-    let each : k * 2 ^ 0 ≡ k = omega arith in
-    row_is points 0 rows (subst P dense t) k r (omega (arith, each)) e ∙ ap (λ n. prefix_of points n) each
-
 -- the rows so far and one more
 pub push_row : (row : ℕ → Prefix) (rows : List Prefix) (r : Prefix) (k : ℕ) → length rows ≡ k → ((m : ℕ) → m < k → get_or rows m no_prefix ≡ row m)
     → r ≡ row k → (m : ℕ) → m < k + 1 → get_or (rows ++ r ∷ []) m no_prefix ≡ row m

@@ -155,11 +155,8 @@ impl<'p> Moments<'p> {
         ensures value { result ≡ raw_of (λ d. point_at self.now (i + d)) (j - i + 1) }
         ensures most { IsRawOf (MOST_STEPS + 1) result }
     {
-        if self.shift != 0 {
-            return self.segment(i, j);
-        }
-        let before = self.rows[i as usize];
-        self.rows[j as usize + 1].minus(before).raw()
+        let before = self.row_in_lap(i as usize);
+        self.row_in_lap(j as usize + 1).minus(before).raw()
     }
 
     /// The sums over the first `k` points, of one lap at most.
@@ -188,17 +185,31 @@ impl<'p> Moments<'p> {
     }
 
     /// The sums over the first `k` points, in the first lap or in the second.
+    #[inline(always)]
     pub(crate) fn row(&self, k: usize) -> Prefix
         requires { k ≤ 2 * length self.now }
         ensures value { result ≡ prefix_of self.now k }
         ensures on_page { AreOnPage self.now }
     {
-        let lap = self.count();
-        if k <= lap {
+        if k <= self.count() {
             self.row_in_lap(k)
         } else {
-            self.row_in_lap(lap).plus(self.row_in_lap(k - lap))
+            self.row_beyond(k)
         }
+    }
+
+    /// The same, where `k` is in the second lap.
+    //
+    // It isn't inlined, so that most sums are one look at the table.
+    #[inline(never)]
+    fn row_beyond(&self, k: usize) -> Prefix
+        requires beyond { length self.now ≤ k }
+        requires lap { k ≤ 2 * length self.now }
+        ensures value { result ≡ prefix_of self.now k }
+        ensures on_page { AreOnPage self.now }
+    {
+        let lap = self.count();
+        self.row_in_lap(lap).plus(self.row_in_lap(k - lap))
     }
 
     /// The penalty of the straight segment from point number `i` to number `j` in place of the
