@@ -134,9 +134,8 @@ fn fill_farthest(segments: &Segments, farthest: &mut Vec<u32>) -> Result<(), NoM
 
 /// How many costs are kept: the least power of two above the steps of the longest segment.
 //
-// A cost takes 8 bytes, and a list of one for each point of a long path is memory that is used for the first time,
-// which takes longer than the search. The longest segment of a map has some hundred steps, so its costs take a few KiB.
-// The price: a mask for each cost, and a proof that speaks of a list of all costs that isn't there (`AreKept`).
+// A list of a cost for each point of a long path would be memory that is used for the first time, which costs more than
+// the mask that finds a slot. The price: a proof that speaks of a list of all costs that isn't there (`AreKept`).
 fn enough_slots(segments: &Segments) -> usize
     ensures enough { AreEnoughSlots (length segments.now.moments.now) segments.now.lasts.items result }
     ensures few { result ≤ 2 ^ 16 }

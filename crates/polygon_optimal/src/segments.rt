@@ -16,7 +16,7 @@ use straight_paths::{Memo, Reach};
 /// The segments of a closed walk's polygons, and their penalties.
 //
 // Of a possible segment each shorter one from the same point is possible too, so one number for each point, where its
-// longest segment leads, decides every step. What else was measured, 20 bytes a point, is given back before the search.
+// longest segment leads, decides every step. What else was measured, 4 bytes a point, is given back before the search.
 #[derive(Drop)]
 pub(crate) struct Segments<'a> {
     pub(crate) moments: &'a Moments<'a>,

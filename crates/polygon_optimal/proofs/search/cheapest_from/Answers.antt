@@ -1,4 +1,4 @@
-use Rattle.std.proofs.Common.{ℕ, ◌+◌, ◌<◌, length, subst, arith}
+use Rattle.std.proofs.Common.{ℕ, ◌+◌, ◌<◌, length, ap, subst, arith}
 use Rattle.std.specs.Prelude.{slice_index}
 use Rattle.polygon_optimal.specs.Inner.Search.{HasCheapest, slot_of}
 use Rattle.polygon_optimal.specs.Polygon.{penalty_of}
@@ -10,11 +10,12 @@ pub returns : goal.returns
 returns c =
     let s = c.args.segments.now in
     let costs = c.args.costs.now in
-    let begin : ℕ = c.args.begin in
-    let cost_by : ℕ → ℕ = λ k. penalty_of s.moments.now c.args.from k + slice_index costs (slot_of (length costs) k) in
-    let there : c.args.from < length s.lasts.items = omega (arith, s.places) in
-    let last = last_of s.lasts.items c.args.from c.index-last.result.now there c.index-last.ensures in
-    let at = c.in_lap-nearest.ensures in
+    let from : ℕ = c.args.nearest.from in
+    let begin : ℕ = c.args.nearest.to in
+    let cost_by : ℕ → ℕ = λ k. penalty_of s.moments.now from k + slice_index costs (slot_of (length costs) k) in
+    let there : from < length s.lasts.items = omega (arith, s.places, c.args.nearest.point, ap length c.requires.nearest) in
+    let last = last_of s.lasts.items from c.index-last.result.now there c.index-last.ensures in
+    let at = c.of-segment.ensures in
     let first = rw (at.from, at.to) at c.onward_by-first.ensures in
     let beyond = rw (at.from, at.to) at c.cheaper_beyond.ensures in
     let R : ℕ → Type 0 = λ end. HasCheapest cost_by begin (end + 1) c.cheaper_beyond.result in
