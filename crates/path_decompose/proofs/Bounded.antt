@@ -9,8 +9,9 @@ use Rattle.bit_image.specs.Inner.Words.{black_in}
 use Rattle.bit_image.proofs.Bits.{is_one-zero, black_in-at}
 use Rattle.bit_image.proofs.Pages.{image_of-page_of, image_of-page_of_above, image_of-page_of_right, IsPage-page_of, page_of-image_of, Fits-page}
 use Rattle.turn_policies.specs.Majority.{behind}
-use Rattle.path_decompose.proofs.Spread.{zeros, zero_at}
-use Rattle.path_decompose.specs.Inner.BoundaryBits.{has_edge, changes, AreEdgesOf, black_past, bounded_image, AreEdges, changes_in}
+use Rattle.path_decompose.specs.Inner.Blocks.{spread, AreBlocks}
+use Rattle.path_decompose.proofs.Spread.{zeros, zero_at, length-spread}
+use Rattle.path_decompose.specs.Inner.BoundaryBits.{has_edge, changes, AreEdgesOf, black_past, bounded_image, AreEdges, AreLaidOut, changes_in}
 
 and_false : (a : Bool) → a && false ≡ false
 and_false true = refl
@@ -99,6 +100,23 @@ self_edges w h rows strips words page a is =
 pub self_page : (w h rows strips : ℕ) (words : List ℕ) (page : Page) → AreEdges w h rows strips words → page_of w h (bounded_image rows words) ≡ page → IsPage page
 self_page w h rows strips words page a is =
     subst IsPage is (IsPage-page_of w h (bounded_image rows words) a.some_width a.most_width a.some_height a.most_height)
+
+-- how its edges stand in blocks
+pub laid_out : (w h rows strips : ℕ) (words : List ℕ) (page : Page) (starts blocks : List ℕ) → AreEdges w h rows strips words → page_of w h (bounded_image rows words) ≡ page
+    → AreBlocks starts blocks → spread starts blocks ≡ words → AreLaidOut page rows starts blocks
+laid_out w h rows strips words page starts blocks a is are same =
+    let width : page.width ≡ w = sym (ap (λ p. p.width) is) in
+    let height : page.height ≡ h = sym (ap (λ p. p.height) is) in
+    let columns : page.width / 64 + 2 ≡ strips = ap (λ n. n / 64 + 2) width ∙ sym a.strip_count in
+    let room : 2 * ((page.width / 64 + 2) * rows) ≡ 16 * length starts = ap (λ n. 2 * (n * rows)) columns ∙ sym a.word_count ∙ sym (ap length same) ∙ length-spread starts blocks in
+    record {
+      few = omega (arith, a.row_count, a.most_height);
+      narrow = omega (arith, width, a.most_width);
+      high = omega (arith, height, a.row_count);
+      room = omega (arith, room);
+      blocks = are;
+      edges = subst (AreEdgesOf (image_of page) rows) (sym same) (self_edges w h rows strips words page a is);
+    }
 
 -- strips of whole blocks
 pub whole_blocks : (strips blocks : ℕ) → 16 * (strips * blocks) ≡ 2 * (strips * (8 * blocks))

@@ -48,6 +48,10 @@ begins_below starts n m down block start whole is next outside here =
 pub spot_inside : (rows : ℕ) (starts words : List ℕ) (x y kind : ℕ) (spot : Spot) → AreBlocks starts words → IsSpot rows starts x y spot → kind < 2 → spot.down + kind < length words
 spot_inside rows starts words x y kind spot blocks is small = omega (arith, is.place, small, blocks.room (word_place rows 0 (x / 64) y / 16))
 
+-- the word with the edges of a kind
+pub spot_word : (rows : ℕ) (starts : List ℕ) (x y kind : ℕ) (spot : Spot) → IsSpot rows starts x y spot → kind < 2 → stands_at starts (word_place rows kind (x / 64) y) ≡ spot.down + kind
+spot_word rows starts x y kind spot is small = sym (ap (λ n. n + kind) is.place ∙ next_stands starts (x / 64 * rows + y) kind small)
+
 pub edge_taken : (rows : ℕ) (starts words : List ℕ) (kind x y : ℕ) (spot : Spot) → HasSpot rows starts x y → IsSpot rows starts x y spot → kind < 2 → spot.bit < 2 ^ 64 → AreBlocks starts words
     → AreTakenBy rows starts (λ k u v. same_edge kind x y k u v) words (set words (spot.down + kind) (bit_and (get_or words (spot.down + kind) 0) (bit_not w64 spot.bit)))
 edge_taken rows starts words kind x y spot has is small fits blocks =
@@ -55,7 +59,7 @@ edge_taken rows starts words kind x y spot has is small fits blocks =
     let all : List ℕ = spread starts words in
     let size : length all ≡ 16 * length starts = length-spread starts words in
     let inside : place < 16 * length starts = place_inside rows (x / 64) y kind (16 * length starts) has.row small has.room in
-    let at : stands_at starts place ≡ spot.down + kind = sym (ap (λ n. n + kind) is.place ∙ next_stands starts (x / 64 * rows + y) kind small) in
+    let at : stands_at starts place ≡ spot.down + kind = spot_word rows starts x y kind spot is small in
     let less : (word : ℕ) → word ≡ 0 → bit_and word (bit_not w64 spot.bit) ≡ 0 = λ word zero. omega (arith, zero, and_le_l word (bit_not w64 spot.bit)) in
     let word : ℕ = bit_and (get_or words (stands_at starts place) 0) (bit_not w64 spot.bit) in
     let taken = spread-less starts words place word blocks inside (less (get_or words (stands_at starts place) 0)) in

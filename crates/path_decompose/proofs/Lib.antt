@@ -30,6 +30,7 @@ pub mod Spread
 pub mod EdgeBits
 pub mod EdgeTaken
 pub mod LineSpots
+pub mod CornerSpots
 pub mod Straight
 pub mod Taken
 pub mod EightPixels

@@ -1,13 +1,16 @@
 -- Where the edges of a corner stand beside those of the next one, and which of them lies along the line between the two.
-use Rattle.std.proofs.Common.{◌≡◌, ◌≢◌, ℕ, suc, ◌+◌, ◌-◌, ◌*◌, ◌/◌, ◌%◌, ◌^◌, ◌<◌, ◌≤◌, ℤ, pos, ◌≤ℤ◌, nat_abs, true, false, ◌⊎◌, cond, min, max, nat_eq, List, length, get_or, w32, w64, to_z, of_z, refl, ap, sym, subst, ◌∙◌, inl, inr, arith}
+use Rattle.std.proofs.Common.{◌≡◌, ◌≢◌, ℕ, suc, ◌+◌, ◌-◌, ◌*◌, ◌/◌, ◌%◌, ◌^◌, ◌<◌, ◌≤◌, ℤ, pos, ◌≤ℤ◌, nat_abs, true, false, not, ◌&&◌, ◌⊎◌, cond, min, max, nat_eq, List, length, get_or, w32, w64, to_z, of_z, refl, ap, sym, subst, ◌∙◌, inl, inr, arith}
 use Rattle.std.specs.Int.{trailing_zeros}
+use Rattle.std.specs.Int.RustNames.{bit_and}
+use Rattle.std.proofs.lemmas.Nat.{and_le_r}
 use Rattle.std.proofs.lemmas.Nat.Bits.{bit_at-trailing_zeros}
 use Rattle.std.proofs.lemmas.Bool.Decides.{nat_tests}
 use Rattle.bit_image.specs.Words.{is_one}
+use Rattle.bit_image.proofs.Bits.{is_one-and, is_one-zero, and_true}
 use Rattle.bit_image.proofs.Turned.{is_one-shr, is_one-shl, is_one-shl_below}
 use Rattle.std.proofs.Math.Nat.{mod-eq_of_lt, mod_self}
 use Rattle.std.proofs.lemmas.Int.{ints}
-use Rattle.std.proofs.lemmas.Bool.{cases_lt, eq-eqb, eqb-true, ne_eqb, false≢true}
+use Rattle.std.proofs.lemmas.Bool.{cases_lt, cases_eq, eq-eqb, eqb-true, ne_eqb, and_parts, false≢true}
 use Rattle.pt_core.specs.ClosedWalk.{origin, IsUnitStep, IsClosedWalk}
 use Rattle.pt_core.specs.declared.point.Point.{Point}
 use Rattle.path_decompose.specs.declared.strips.Spot.{Spot}
@@ -24,6 +27,22 @@ unfolding is_one
 lowest_one word some fits =
     let lowest = bit_at-trailing_zeros w64 word some fits in
     (lowest.0, ap (λ n. nat_eq n 1) lowest.1)
+
+-- a word's bit, read by a word in which only that one is 1
+pub bit_met : (word bit k : ℕ) → bit < 2 ^ 64 → k < 64 → ((i : ℕ) → i < 64 → is_one bit i ≡ nat_eq k i) → not (nat_eq (bit_and word bit) 0) ≡ is_one word k
+bit_met word bit k fits short one =
+    let both : (i : ℕ) → i < 64 → is_one (bit_and word bit) i ≡ is_one word i && nat_eq k i = λ i p. is_one-and word bit i ∙ ap (λ t. is_one word i && t) (one i p) in
+    let here : is_one (bit_and word bit) k ≡ is_one word k = both k short ∙ ap (λ t. is_one word k && t) (eq-eqb k k refl) ∙ and_true (is_one word k) in
+    elim (cases_eq (bit_and word bit) 0) [
+      | inl none ↦
+          ap not (eq-eqb (bit_and word bit) 0 none)
+          ∙ sym (sym here ∙ ap (λ n. is_one n k) none ∙ is_one-zero k)
+      | inr some ↦
+          let lowest = lowest_one (bit_and word bit) (omega (arith, some)) (omega (arith, fits, and_le_r word bit)) in
+          let parts = and_parts (is_one word (trailing_zeros w64 (bit_and word bit))) (nat_eq k (trailing_zeros w64 (bit_and word bit))) (sym (both _ lowest.0) ∙ lowest.1) in
+          ap not (ne_eqb (bit_and word bit) 0 some)
+          ∙ sym (ap (is_one word) (eqb-true k _ parts.1) ∙ parts.0)
+    ]
 
 -- the only 1 of a word moves by one place, where it doesn't leave the word
 pub bit_right : (bit x : ℕ) → 0 < bit * 2 ^ 1 % 2 ^ 64 → ((i : ℕ) → i < 64 → is_one bit i ≡ nat_eq (x % 64) i)

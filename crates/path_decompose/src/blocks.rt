@@ -53,6 +53,15 @@ impl Blocks {
         Ok(Blocks { starts, words })
     }
 
+    /// Where each block begins among the words that take room, and these.
+    #[inline(always)]
+    pub(crate) fn parts(&self) -> (&[u32], &[u64])
+        ensures whole { AreBlocks result.0.now result.1.now }
+        ensures same { spread result.0.now result.1.now ≡ self.now }
+    {
+        (&self.starts, &self.words)
+    }
+
     /// The word at a place.
     #[inline(always)]
     pub(crate) fn get(&self, place: usize) -> u64

@@ -6,12 +6,15 @@ ghost use Rattle.turn_policies.specs.Boundary.{left_pixel, right_pixel};
 ghost use Rattle.turn_policies.specs.Heading.{opposite_of};
 ghost use Rattle.turn_policies.specs.Majority.{major};
 ghost use Rattle.turn_policies.specs.Turn.{goes_right, turn};
+ghost use Rattle.path_decompose.specs.Inner.BoundaryBits.{IsSpotAt};
 
 use crate::edges::Edges;
+use crate::layout::Layout;
+use crate::strips::Spot;
 use pt_core::{Policy, Sign};
-use turn_policies::{Dir, Edge, asks_majority, goes_right, major_in};
+use turn_policies::{Dir, asks_majority, goes_right, major_in};
 
-/// The edge on which a walk goes on that comes to corner (x, y) with a heading, with black on its left and white on its
+/// The heading with which a walk goes on that comes to corner (x, y) with a heading, with black on its left and white on its
 /// right.
 ///
 /// | Edge straight ahead | Edge on the right | Turn |
@@ -22,55 +25,64 @@ use turn_policies::{Dir, Edge, asks_majority, goes_right, major_in};
 /// | yes | yes | as the policy says |
 #[inline(always)]
 pub(crate) fn turned_at(
-    page: &Edges,
+    edges: &Layout,
+    spot: Spot,
     x: u32,
     y: u32,
     heading: Dir,
     policy: Policy,
     sign: Sign,
-) -> Edge
-    requires x { x ≤ page.now.width }
-    requires y { y ≤ page.now.height }
-    requires black_left { right_pixel (south_west (image_of page.now)) x y (opposite_of heading) ≡ true }
-    requires white_right { left_pixel (south_west (image_of page.now)) x y (opposite_of heading) ≡ false }
-    ensures x { result.x ≡ x }
-    ensures y { result.y ≡ y }
-    ensures heading { result.heading ≡ turn (image_of page.now) policy sign x y heading }
+) -> Dir
+    requires x { x ≤ edges.now.page.now.width }
+    requires y { y ≤ edges.now.page.now.height }
+    requires spot { IsSpotAt edges.now.rows edges.now.starts.now x y spot }
+    requires black_left { right_pixel (south_west (image_of edges.now.page.now)) x y (opposite_of heading) ≡ true }
+    requires white_right { left_pixel (south_west (image_of edges.now.page.now)) x y (opposite_of heading) ≡ false }
+    ensures { result ≡ turn (image_of edges.now.page.now) policy sign x y heading }
 {
-    let heading = match edges_ahead(page, x, y, heading) {
+    match edges_ahead(edges, spot, x, y, heading) {
         (true, false) => heading,
         (false, true) => heading.right(),
         (false, false) => heading.left(),
         (true, true) => {
             // Of four edges the black pixels lie behind on the left and ahead on the right.
             let black = matches!(heading, Dir::North | Dir::South);
-            if chooses_right(page, x, y, black, policy, sign) {
+            if chooses_right(edges.page, x, y, black, policy, sign) {
                 heading.right()
             } else {
                 heading.left()
             }
         }
-    };
-    Edge { x, y, heading }
+    }
 }
 
 /// Whether there is an edge straight ahead of corner (x, y), and one on the right.
 #[inline(always)]
-fn edges_ahead(page: &Edges, x: u32, y: u32, heading: Dir) -> (bool, bool)
-    requires x { x ≤ page.now.width }
-    requires y { y ≤ page.now.height }
-    ensures ahead { result.0 ≡ differ (left_pixel (south_west (image_of page.now)) x y heading)
-        (right_pixel (south_west (image_of page.now)) x y heading) }
-    ensures right { result.1 ≡ differ (right_pixel (south_west (image_of page.now)) x y heading)
-        (left_pixel (south_west (image_of page.now)) x y (opposite_of heading)) }
+fn edges_ahead(edges: &Layout, spot: Spot, x: u32, y: u32, heading: Dir) -> (bool, bool)
+    requires x { x ≤ edges.now.page.now.width }
+    requires y { y ≤ edges.now.page.now.height }
+    requires spot { IsSpotAt edges.now.rows edges.now.starts.now x y spot }
+    ensures ahead { result.0 ≡ differ (left_pixel (south_west (image_of edges.now.page.now)) x y heading)
+        (right_pixel (south_west (image_of edges.now.page.now)) x y heading) }
+    ensures right { result.1 ≡ differ (right_pixel (south_west (image_of edges.now.page.now)) x y heading)
+        (left_pixel (south_west (image_of edges.now.page.now)) x y (opposite_of heading)) }
 {
     // The width is asked, so that the proof sees that a page is small.
-    let _ = page.width();
+    let _ = edges.page.width();
     match heading {
-        Dir::North => (page.goes_down(x, y + 1), page.goes_left(x + 1, y)),
-        Dir::East => (page.goes_left(x + 1, y), page.goes_down(x, y)),
-        Dir::South => (page.goes_down(x, y), page.goes_left(x, y)),
-        Dir::West => (page.goes_left(x, y), page.goes_down(x, y + 1)),
+        Dir::North => (
+            edges.goes_down(edges.above(spot, x, y), x, y + 1),
+            edges.goes_left(edges.right(spot, x, y), x + 1, y),
+        ),
+        Dir::East => (
+            edges.goes_left(edges.right(spot, x, y), x + 1, y),
+            edges.goes_down(spot, x, y),
+        ),
+        Dir::South => (edges.goes_down(spot, x, y), edges.goes_left(spot, x, y)),
+        Dir::West => (
+            edges.goes_left(spot, x, y),
+            edges.goes_down(edges.above(spot, x, y), x, y + 1),
+        ),
     }
 }
 

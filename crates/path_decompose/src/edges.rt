@@ -1,16 +1,16 @@
 //! The boundary edges that are left of a page, and so the image that is left.
-ghost use Rattle.std.specs.Prelude.{◌≡◌, ℕ, suc, ◌+◌, ◌-◌, ◌*◌, ◌/◌, ◌≤◌, ◌<◌, ◌^◌, ◌&&◌, nat_le, true, false, length, IfOk, OnOk, IsNone, IfSome, ◌↔◌};
+ghost use Rattle.std.specs.Prelude.{◌≡◌, ℕ, ◌+◌, ◌-◌, ◌*◌, ◌/◌, ◌≤◌, ◌<◌, ◌^◌, ◌&&◌, nat_le, true, false, length, IfOk, OnOk, IsNone, IfSome, ◌↔◌};
 ghost use Rattle.bit_image.specs.FirstBlack.{IsFirstBlackFrom};
-ghost use Rattle.bit_image.specs.Image.{Fits, IsWhiteTo, differ, south_west};
+ghost use Rattle.bit_image.specs.Image.{Fits, IsWhiteTo};
 ghost use Rattle.bit_image.specs.Page.{IsPage, SameSides, image_of, page_of};
 ghost use Rattle.bit_image.specs.Inner.Words.{black_in};
 ghost use Rattle.turn_policies.specs.Inner.Square.{IsSquare};
-ghost use Rattle.path_decompose.specs.Inner.BoundaryBits.{has_edge, changes, AreEdgesOf, AreWalked};
+ghost use Rattle.path_decompose.specs.Inner.BoundaryBits.{has_edge, AreEdgesOf, AreLaidOut, AreWalked};
 ghost use Rattle.path_decompose.specs.Decomposition.{inverted};
 
 use crate::blocks::Blocks;
 use crate::square::relative_square;
-use crate::strips::{self, BLOCK_ROWS, DOWN, LEFT};
+use crate::strips::{self, BLOCK_ROWS};
 use crate::taking::take_path;
 use bit_image::Bitmap;
 use pt_core::{NoMemory, Point};
@@ -80,35 +80,13 @@ impl Edges {
         self.width
     }
 
-    /// Whether an edge goes down from corner (x, y).
+    /// How many rows a strip has, where each block begins, and the words of the blocks.
     #[inline(always)]
-    pub(crate) fn goes_down(&self, x: u32, y: u32) -> bool
-        requires x { x ≤ self.now.width + 1 }
-        requires y { y ≤ self.now.height + 1 }
-        ensures { result ≡ differ (south_west (image_of self.now) x y) (south_west (image_of self.now) (suc x) y) }
+    pub(crate) fn parts(&self) -> (usize, &[u32], &[u64])
+        ensures { AreLaidOut self.now result.0 result.1.now result.2.now }
     {
-        self.has_edge(DOWN, x, y)
-    }
-
-    /// Whether an edge goes left from corner (x, y).
-    #[inline(always)]
-    pub(crate) fn goes_left(&self, x: u32, y: u32) -> bool
-        requires x { x ≤ self.now.width + 1 }
-        requires y { y ≤ self.now.height + 1 }
-        ensures { result ≡ differ (south_west (image_of self.now) x y) (south_west (image_of self.now) x (suc y)) }
-    {
-        self.has_edge(LEFT, x, y)
-    }
-
-    /// Whether corner (x, y) has an edge of a kind.
-    #[inline(always)]
-    fn has_edge(&self, kind: usize, x: u32, y: u32) -> bool
-        requires kind { kind < 2 }
-        requires x { x ≤ self.now.width + 1 }
-        requires y { y ≤ self.now.height + 1 }
-        ensures { result ≡ changes (image_of self.now) kind (x + MARGIN) (y + MARGIN) }
-    {
-        strips::has_edge(&self.words, self.rows, kind, x + MARGIN, y + MARGIN)
+        let (starts, words) = self.words.parts();
+        (self.rows, starts, words)
     }
 
     /// The square of 64 pixels with corner (x, y) at its middle, where it is known whether pixel (x, y) is black: bits 0
@@ -147,6 +125,9 @@ impl Edges {
     /// The column and the row of the first black pixel of rows `from` down to 0.
     ///
     /// It is the leftmost one of the uppermost of these rows that has one.
+    //
+    // It isn't inlined, so that its loops have the registers to themselves.
+    #[inline(never)]
     pub(crate) fn first_black(&self, from: u32) -> Option<(u32, u32)>
         requires { from < self.now.height }
         ensures none { IsNone result ↔ IsWhiteTo (image_of self.now) from }

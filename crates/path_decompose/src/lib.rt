@@ -23,6 +23,7 @@ pub mod decomposition;
 mod edges;
 pub mod interior;
 pub mod laws;
+mod layout;
 pub mod line;
 pub mod speckle;
 mod square;

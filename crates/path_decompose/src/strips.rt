@@ -54,9 +54,9 @@ pub(crate) struct Spot {
     /// Their block.
     block: usize,
     /// The place of the word with the edge that goes down. The edge that goes left is in the next one.
-    down: usize,
+    pub down: usize,
     /// A word in which only their bit is 1.
-    bit: u64,
+    pub bit: u64,
 }
 
 /// Where the edges in column `x` and row `y` stand, by the starts of the blocks.
@@ -166,6 +166,9 @@ pub(crate) fn take_edge(words: &mut [u64], spot: Spot, kind: usize)
 }
 
 /// Puts the edges along a row of pixels, and between it and the row above, into row `y` of the strips, which has none.
+//
+// It isn't inlined, so that its loop has the registers to itself.
+#[inline(never)]
 pub(crate) fn put_row(
     words: &mut Blocks,
     rows: usize,

@@ -3,6 +3,7 @@ ghost use Rattle.std.specs.Prelude.{◌≡◌, ◌≢◌, ℕ, ◌+◌, ◌∷�
 ghost use Rattle.bit_image.specs.FirstBlack.{IsFirstBlack};
 ghost use Rattle.bit_image.specs.Page.{image_of};
 ghost use Rattle.path_decompose.specs.Inside.{inside, black_count};
+ghost use Rattle.path_decompose.specs.Inner.BoundaryBits.{IsSpotAt};
 ghost use Rattle.path_decompose.specs.Inner.Trail.{edge_from, AreSumsBelow, AreNoted, IsStraightRun};
 ghost use Rattle.path_decompose.specs.Walk.{first_edge, IsBoundaryWalk};
 ghost use Rattle.turn_policies.specs.Boundary.{IsBoundary};
@@ -10,6 +11,8 @@ ghost use Rattle.turn_policies.specs.Turn.{next};
 
 use crate::corner::turned_at;
 use crate::edges::Edges;
+use crate::layout::Layout;
+use crate::strips::Spot;
 use crate::trail::Trail;
 use pt_core::{NoMemory, Point, Policy, Sign};
 use turn_policies::{Dir, Edge};
@@ -20,6 +23,9 @@ use turn_policies::{Dir, Edge};
 // shoelace formula of surveyors. For that it has to be known which side of each line is inside, which is proved step
 // by step: a turn to the left keeps the pixel on the left, one to the right the pixel on the right, and straight on
 // both pixels are as they were. The columns are summed up here, where the heading is known.
+//
+// It isn't inlined, so that its loops have the registers to themselves.
+#[inline(never)]
 pub(crate) fn walk_round(
     page: &Edges,
     x: u32,
@@ -37,92 +43,113 @@ pub(crate) fn walk_round(
 {
     // The width is asked, so that the proof sees that a page is small, and its edges are few.
     let _ = page.width();
+    let (rows, starts, words) = page.parts();
+    let edges = Layout {
+        page,
+        rows,
+        starts,
+        words,
+    };
     trail.clear();
     let mut here = Edge {
         x,
         y: y + 1,
         heading: Dir::South,
     };
+    let mut spot = edges.spot(x, y + 1);
     'runs: loop {
-        here = turned_after(page, here, policy, sign, trail)?;
+        let after = turned_after(&edges, here, spot, policy, sign, trail)?;
+        here = after.0;
+        spot = after.1;
         if is_first(here, x, y) {
             return Ok(());
         }
     }
 }
 
-/// The edge to which a walk turns after a run of edges with one heading, which are noted down.
+/// The edge to which a walk turns after a run of edges with one heading, which are noted down, and where the edges of
+/// the corner stand that it leaves.
 #[inline(always)]
 fn turned_after(
-    page: &Edges,
+    edges: &Layout,
     edge: Edge,
+    spot: Spot,
     policy: Policy,
     sign: Sign,
     trail: &mut Trail,
-) -> Result<Edge, NoMemory>
-    requires boundary { IsBoundary (image_of page.now) edge }
+) -> Result<(Edge, Spot), NoMemory>
+    requires boundary { IsBoundary (image_of edges.now.page.now) edge }
+    requires spot { IsSpotAt edges.now.rows edges.now.starts.now edge.x edge.y spot }
     requires sums { AreSumsBelow (2 ^ 62) trail.old }
     ensures run { IfOk result (λ after.
-        IsStraightRun (next (image_of page.now) policy sign) edge after trail.old trail.new) }
-    ensures turns { IfOk result (λ after. after.heading ≢ edge.heading) }
+        IsStraightRun (next (image_of edges.now.page.now) policy sign) edge after.0 trail.old trail.new) }
+    ensures turns { IfOk result (λ after. after.0.heading ≢ edge.heading) }
+    ensures spot { IfOk result (λ after. IsSpotAt edges.now.rows edges.now.starts.now after.0.x after.0.y after.1) }
 {
     let Edge { x, y, heading } = edge;
     // Each heading has a loop of its own, in which neither it nor what it asks is looked up again, and in which the
     // processor foresees the turns better.
     match heading {
-        Dir::North => turned_run(page, x, y, Dir::North, policy, sign, trail),
-        Dir::East => turned_run(page, x, y, Dir::East, policy, sign, trail),
-        Dir::South => turned_run(page, x, y, Dir::South, policy, sign, trail),
-        Dir::West => turned_run(page, x, y, Dir::West, policy, sign, trail),
+        Dir::North => turned_run(edges, x, y, spot, Dir::North, policy, sign, trail),
+        Dir::East => turned_run(edges, x, y, spot, Dir::East, policy, sign, trail),
+        Dir::South => turned_run(edges, x, y, spot, Dir::South, policy, sign, trail),
+        Dir::West => turned_run(edges, x, y, spot, Dir::West, policy, sign, trail),
     }
 }
 
 /// The same of the edge that leaves corner (x, y) with a heading.
 #[inline(always)]
 fn turned_run(
-    page: &Edges,
+    edges: &Layout,
     mut x: u32,
     mut y: u32,
+    mut spot: Spot,
     heading: Dir,
     policy: Policy,
     sign: Sign,
     trail: &mut Trail,
-) -> Result<Edge, NoMemory>
-    requires boundary { IsBoundary (image_of page.now) (edge_from x y heading) }
+) -> Result<(Edge, Spot), NoMemory>
+    requires boundary { IsBoundary (image_of edges.now.page.now) (edge_from x y heading) }
+    requires spot { IsSpotAt edges.now.rows edges.now.starts.now x y spot }
     requires sums { AreSumsBelow (2 ^ 62) trail.old }
-    ensures run { IfOk result (λ after. IsStraightRun (next (image_of page.now) policy sign)
-        (edge_from x y heading) after trail.old trail.new) }
-    ensures turns { IfOk result (λ after. after.heading ≢ heading) }
+    ensures run { IfOk result (λ after. IsStraightRun (next (image_of edges.now.page.now) policy sign)
+        (edge_from x y heading) after.0 trail.old trail.new) }
+    ensures turns { IfOk result (λ after. after.0.heading ≢ heading) }
+    ensures spot { IfOk result (λ after. IsSpotAt edges.now.rows edges.now.starts.now after.0.x after.0.y after.1) }
 {
     // The width is asked, so that the proof sees that a page is small.
-    let _ = page.width();
+    let _ = edges.page.width();
     'edges: loop {
-        let after = step(page, Edge { x, y, heading }, policy, sign, trail)?;
-        if after.heading != heading {
+        let after = step(edges, Edge { x, y, heading }, spot, policy, sign, trail)?;
+        if after.0.heading != heading {
             return Ok(after);
         }
-        x = after.x;
-        y = after.y;
+        x = after.0.x;
+        y = after.0.y;
+        spot = after.1;
     }
 }
 
-/// The edge that follows an edge of a boundary, which is noted down.
+/// The edge that follows an edge of a boundary, which is noted down, and where the edges of the corner between stand.
 #[inline(always)]
 fn step(
-    page: &Edges,
+    edges: &Layout,
     edge: Edge,
+    spot: Spot,
     policy: Policy,
     sign: Sign,
     trail: &mut Trail,
-) -> Result<Edge, NoMemory>
-    requires boundary { IsBoundary (image_of page.now) edge }
+) -> Result<(Edge, Spot), NoMemory>
+    requires boundary { IsBoundary (image_of edges.now.page.now) edge }
+    requires spot { IsSpotAt edges.now.rows edges.now.starts.now edge.x edge.y spot }
     requires sums { AreSumsBelow (2 ^ 63) trail.old }
-    ensures value { IfOk result (λ after. after ≡ next (image_of page.now) policy sign edge) }
-    ensures boundary { IfOk result (λ after. IsBoundary (image_of page.now) after) }
+    ensures value { IfOk result (λ after. after.0 ≡ next (image_of edges.now.page.now) policy sign edge) }
+    ensures boundary { IfOk result (λ after. IsBoundary (image_of edges.now.page.now) after.0) }
+    ensures spot { IfOk result (λ after. IsSpotAt edges.now.rows edges.now.starts.now after.0.x after.0.y after.1) }
     ensures noted { OnOk result (AreNoted trail.old trail.new (edge ∷ [])) }
 {
     // The width is asked, so that the proof sees that an edge lies on the page.
-    let _ = page.width();
+    let _ = edges.page.width();
     let Edge { x, y, heading } = edge;
     trail.points.push(Point {
         x: x as i32,
@@ -131,14 +158,54 @@ fn step(
     match heading {
         Dir::North => {
             trail.up += u64::from(x);
-            Ok(turned_at(page, x, y + 1, Dir::North, policy, sign))
+            let end = edges.above(spot, x, y);
+            let heading = turned_at(edges, end, x, y + 1, Dir::North, policy, sign);
+            Ok((
+                Edge {
+                    x,
+                    y: y + 1,
+                    heading,
+                },
+                end,
+            ))
         }
-        Dir::East => Ok(turned_at(page, x + 1, y, Dir::East, policy, sign)),
+        Dir::East => {
+            let end = edges.right(spot, x, y);
+            let heading = turned_at(edges, end, x + 1, y, Dir::East, policy, sign);
+            Ok((
+                Edge {
+                    x: x + 1,
+                    y,
+                    heading,
+                },
+                end,
+            ))
+        }
         Dir::South => {
             trail.down += u64::from(x);
-            Ok(turned_at(page, x, y - 1, Dir::South, policy, sign))
+            let end = edges.below(spot, x, y);
+            let heading = turned_at(edges, end, x, y - 1, Dir::South, policy, sign);
+            Ok((
+                Edge {
+                    x,
+                    y: y - 1,
+                    heading,
+                },
+                end,
+            ))
         }
-        Dir::West => Ok(turned_at(page, x - 1, y, Dir::West, policy, sign)),
+        Dir::West => {
+            let end = edges.left(spot, x, y);
+            let heading = turned_at(edges, end, x - 1, y, Dir::West, policy, sign);
+            Ok((
+                Edge {
+                    x: x - 1,
+                    y,
+                    heading,
+                },
+                end,
+            ))
+        }
     }
 }
 

@@ -8,6 +8,7 @@ use Rattle.pt_core.specs.declared.point.Point.{Point}
 use Rattle.pt_core.specs.declared.policy.Policy.{Policy}
 use Rattle.bit_image.specs.FirstBlack.{IsFirstBlack}
 use Rattle.bit_image.specs.Image.{Image, Fits, differ}
+use Rattle.bit_image.specs.Page.{Page, image_of}
 use Rattle.bit_image.specs.Words.{is_one}
 use Rattle.bit_image.specs.Inner.Words.{black_in}
 use Rattle.turn_policies.specs.Majority.{behind}
@@ -16,7 +17,7 @@ use Rattle.path_decompose.specs.declared.edges.TheConstants.{MARGIN, BLOCKS_BESI
 use Rattle.path_decompose.specs.declared.strips.Spot.{Spot}
 use Rattle.path_decompose.specs.declared.strips.TheConstants.{BLOCK_ROWS, DOWN, LEFT}
 use Rattle.path_decompose.specs.GridEdges.{GridEdge, upright, level}
-use Rattle.path_decompose.specs.Inner.Blocks.{stands_at}
+use Rattle.path_decompose.specs.Inner.Blocks.{stands_at, spread, AreBlocks}
 use Rattle.path_decompose.specs.Walk.{IsBoundaryWalk}
 
 -- where the word stands that has the edges of a kind in one row of a strip of 64 columns
@@ -71,6 +72,19 @@ pub record AreEdges (width height rows strips : ℕ) (words : List ℕ) : Type 0
   pub word_count : length words ≡ 2 * (strips * rows)
   pub fits : Fits (bounded_image rows words) width height
   pub edges : AreEdgesOf (bounded_image rows words) rows words
+
+-- The words of these blocks have the edges of a page, in strips of so many rows. There is room for those of each corner, of the one above it and of the one on its right.
+pub record AreLaidOut (page : Page) (rows : ℕ) (starts words : List ℕ) : Type 0 where
+  pub few : rows < 2 ^ 16
+  pub narrow : page.width ≤ LONGEST_SIDE
+  pub high : page.height + 4 < rows
+  pub room : 2 * ((page.width / 64 + STRIPS_BESIDE) * rows) ≤ BLOCK * length starts
+  pub blocks : AreBlocks starts words
+  pub edges : AreEdgesOf (image_of page) rows (spread starts words)
+
+-- the edges of corner (x, y) stand here
+abbrev pub IsSpotAt : ℕ → List ℕ → ℕ → ℕ → Spot → Type 0
+IsSpotAt rows starts x y spot = IsSpot rows starts (x + MARGIN) (y + MARGIN) spot
 
 -- the word of a row in a strip, and the word before it
 pub record AreStripWords (row : List ℕ) (strip before here : ℕ) : Type 0 where

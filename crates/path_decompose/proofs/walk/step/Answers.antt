@@ -36,29 +36,29 @@ white_behind : (page : Page) (edge : Edge) (heading : Dir) → edge.heading ≡ 
 white_behind page edge heading is boundary = subst (λ d. right_pixel (south_west (image_of page)) edge.x edge.y d ≡ false) is boundary.white_right
 
 pub overflow_sub-y : goal.overflow_sub-y
-overflow_sub-y c = omega (arith, past_sides (image_of c.args.page.now) (suc c.args.edge.x) c.args.edge.y (black_behind c.args.page.now c.args.edge South c.in-South.is c.requires.boundary))
+overflow_sub-y c = omega (arith, past_sides (image_of c.args.edges.now.page.now) (suc c.args.edge.x) c.args.edge.y (black_behind c.args.edges.now.page.now c.args.edge South c.in-South.is c.requires.boundary))
 
 pub overflow_sub-x : goal.overflow_sub-x
-overflow_sub-x c = omega (arith, past_sides (image_of c.args.page.now) c.args.edge.x c.args.edge.y (black_behind c.args.page.now c.args.edge West c.in-West.is c.requires.boundary))
+overflow_sub-x c = omega (arith, past_sides (image_of c.args.edges.now.page.now) c.args.edge.x c.args.edge.y (black_behind c.args.edges.now.page.now c.args.edge West c.in-West.is c.requires.boundary))
 
-pub turned_at-requires-clause-black_left : goal.turned_at-requires-clause-black_left
-turned_at-requires-clause-black_left c =
-    subst (λ n. south_west (image_of c.args.page.now) c.args.edge.x n ≡ true) (sym (add-one c.args.edge.y)) (black_behind c.args.page.now c.args.edge North c.in-North.is c.requires.boundary)
+pub turned_at-heading-requires-clause-black_left : goal.turned_at-heading-requires-clause-black_left
+turned_at-heading-requires-clause-black_left c =
+    subst (λ n. south_west (image_of c.args.edges.now.page.now) c.args.edge.x n ≡ true) (sym (add-one c.args.edge.y)) (black_behind c.args.edges.now.page.now c.args.edge North c.in-North.is c.requires.boundary)
 
-pub turned_at-requires-clause-white_right : goal.turned_at-requires-clause-white_right
-turned_at-requires-clause-white_right c =
-    subst (λ n. south_west (image_of c.args.page.now) (suc c.args.edge.x) n ≡ false) (sym (add-one c.args.edge.y)) (white_behind c.args.page.now c.args.edge North c.in-North.is c.requires.boundary)
+pub turned_at-heading-requires-clause-white_right : goal.turned_at-heading-requires-clause-white_right
+turned_at-heading-requires-clause-white_right c =
+    subst (λ n. south_west (image_of c.args.edges.now.page.now) (suc c.args.edge.x) n ≡ false) (sym (add-one c.args.edge.y)) (white_behind c.args.edges.now.page.now c.args.edge North c.in-North.is c.requires.boundary)
 
-pub turned_at-requires-clause-y : goal.turned_at-requires-clause-y
-turned_at-requires-clause-y c =
-    let page = c.args.page.now in
+pub turned_at-heading-requires-clause-y : goal.turned_at-heading-requires-clause-y
+turned_at-heading-requires-clause-y c =
+    let page = c.args.edges.now.page.now in
     let on = edge_on (image_of page) page.width page.height c.width.ensures.fits c.args.edge c.requires.boundary in
     let row : suc c.args.edge.y ≤ page.height = subst (λ d. end_y c.args.edge.y d ≤ page.height) c.in-North.is on.end_row in
     omega (arith, row, c.width.ensures.page.most_height)
 
-pub turned_at-requires-in-East-clause-x : goal.turned_at-requires-in-East-clause-x
-turned_at-requires-in-East-clause-x c =
-    let page = c.args.page.now in
+pub turned_at-heading-requires-in-East-clause-x : goal.turned_at-heading-requires-in-East-clause-x
+turned_at-heading-requires-in-East-clause-x c =
+    let page = c.args.edges.now.page.now in
     let on = edge_on (image_of page) page.width page.height c.width.ensures.fits c.args.edge c.requires.boundary in
     let column : suc c.args.edge.x ≤ page.width = subst (λ d. end_x c.args.edge.x d ≤ page.width) c.in-East.is on.end_column in
     omega (arith, column, c.width.ensures.page.most_width)
@@ -67,75 +67,75 @@ pub returns-in-North-clause-value : goal.returns-in-North-clause-value
 returns-in-North-clause-value c =
     let row : c.args.edge.y + 1 ≡ suc c.args.edge.y = omega arith in
     next_is _ _ _ c.args.edge _ North c.args.edge.x (c.args.edge.y + 1) c.in-North.is refl row
-    c.turned_at.ensures.x c.turned_at.ensures.y c.turned_at.ensures.heading
+    refl refl c.turned_at-heading.ensures
 
 pub returns-in-North-clause-boundary : goal.returns-in-North-clause-boundary
 returns-in-North-clause-boundary c =
-    subst (IsBoundary (image_of c.args.page.now)) (sym (returns-in-North-clause-value c)) (next_boundary _ _ _ _ c.requires.boundary)
+    subst (IsBoundary (image_of c.args.edges.now.page.now)) (sym (returns-in-North-clause-value c)) (next_boundary _ _ _ _ c.requires.boundary)
 
 pub returns-in-East-clause-value : goal.returns-in-East-clause-value
 returns-in-East-clause-value c =
     let column : c.args.edge.x + 1 ≡ suc c.args.edge.x = omega arith in
     next_is _ _ _ c.args.edge _ East (c.args.edge.x + 1) c.args.edge.y c.in-East.is column refl
-    c.turned_at-in-East.ensures.x c.turned_at-in-East.ensures.y c.turned_at-in-East.ensures.heading
+    refl refl c.turned_at-heading-in-East.ensures
 
 pub returns-in-East-clause-boundary : goal.returns-in-East-clause-boundary
 returns-in-East-clause-boundary c =
-    subst (IsBoundary (image_of c.args.page.now)) (sym (returns-in-East-clause-value c)) (next_boundary _ _ _ _ c.requires.boundary)
+    subst (IsBoundary (image_of c.args.edges.now.page.now)) (sym (returns-in-East-clause-value c)) (next_boundary _ _ _ _ c.requires.boundary)
 
 pub returns-in-South-clause-value : goal.returns-in-South-clause-value
 returns-in-South-clause-value c =
     let row : c.args.edge.y - 1 ≡ pred c.args.edge.y = omega arith in
     next_is _ _ _ c.args.edge _ South c.args.edge.x (c.args.edge.y - 1) c.in-South.is refl row
-    c.turned_at-in-South.ensures.x c.turned_at-in-South.ensures.y c.turned_at-in-South.ensures.heading
+    refl refl c.turned_at-heading-in-South.ensures
 
 pub returns-in-South-clause-boundary : goal.returns-in-South-clause-boundary
 returns-in-South-clause-boundary c =
-    subst (IsBoundary (image_of c.args.page.now)) (sym (returns-in-South-clause-value c)) (next_boundary _ _ _ _ c.requires.boundary)
+    subst (IsBoundary (image_of c.args.edges.now.page.now)) (sym (returns-in-South-clause-value c)) (next_boundary _ _ _ _ c.requires.boundary)
 
 pub returns-in-West-clause-value : goal.returns-in-West-clause-value
 returns-in-West-clause-value c =
     let column : c.args.edge.x - 1 ≡ pred c.args.edge.x = omega arith in
     next_is _ _ _ c.args.edge _ West (c.args.edge.x - 1) c.args.edge.y c.in-West.is column refl
-    c.turned_at-in-West.ensures.x c.turned_at-in-West.ensures.y c.turned_at-in-West.ensures.heading
+    refl refl c.turned_at-heading-in-West.ensures
 
 pub returns-in-West-clause-boundary : goal.returns-in-West-clause-boundary
 returns-in-West-clause-boundary c =
-    subst (IsBoundary (image_of c.args.page.now)) (sym (returns-in-West-clause-value c)) (next_boundary _ _ _ _ c.requires.boundary)
+    subst (IsBoundary (image_of c.args.edges.now.page.now)) (sym (returns-in-West-clause-value c)) (next_boundary _ _ _ _ c.requires.boundary)
 
 -- a corner of the page is met, and its numbers are small
-pub turned_at-requires-clause-x : goal.turned_at-requires-clause-x
-turned_at-requires-clause-x c = omega (arith, within_page c.args.page.now c.width.ensures.fits c.args.edge c.requires.boundary)
+pub turned_at-heading-requires-clause-x : goal.turned_at-heading-requires-clause-x
+turned_at-heading-requires-clause-x c = omega (arith, within_page c.args.edges.now.page.now c.width.ensures.fits c.args.edge c.requires.boundary)
 
-pub turned_at-requires-in-East-clause-y : goal.turned_at-requires-in-East-clause-y
-turned_at-requires-in-East-clause-y c = omega (arith, within_page c.args.page.now c.width.ensures.fits c.args.edge c.requires.boundary)
+pub turned_at-heading-requires-in-East-clause-y : goal.turned_at-heading-requires-in-East-clause-y
+turned_at-heading-requires-in-East-clause-y c = omega (arith, within_page c.args.edges.now.page.now c.width.ensures.fits c.args.edge c.requires.boundary)
 
-pub turned_at-requires-in-South-clause-x : goal.turned_at-requires-in-South-clause-x
-turned_at-requires-in-South-clause-x c = omega (arith, within_page c.args.page.now c.width.ensures.fits c.args.edge c.requires.boundary)
+pub turned_at-heading-requires-in-South-clause-x : goal.turned_at-heading-requires-in-South-clause-x
+turned_at-heading-requires-in-South-clause-x c = omega (arith, within_page c.args.edges.now.page.now c.width.ensures.fits c.args.edge c.requires.boundary)
 
-pub turned_at-requires-in-South-clause-y : goal.turned_at-requires-in-South-clause-y
-turned_at-requires-in-South-clause-y c = omega (arith, within_page c.args.page.now c.width.ensures.fits c.args.edge c.requires.boundary)
+pub turned_at-heading-requires-in-South-clause-y : goal.turned_at-heading-requires-in-South-clause-y
+turned_at-heading-requires-in-South-clause-y c = omega (arith, within_page c.args.edges.now.page.now c.width.ensures.fits c.args.edge c.requires.boundary)
 
-pub turned_at-requires-in-West-clause-x : goal.turned_at-requires-in-West-clause-x
-turned_at-requires-in-West-clause-x c = omega (arith, within_page c.args.page.now c.width.ensures.fits c.args.edge c.requires.boundary)
+pub turned_at-heading-requires-in-West-clause-x : goal.turned_at-heading-requires-in-West-clause-x
+turned_at-heading-requires-in-West-clause-x c = omega (arith, within_page c.args.edges.now.page.now c.width.ensures.fits c.args.edge c.requires.boundary)
 
-pub turned_at-requires-in-West-clause-y : goal.turned_at-requires-in-West-clause-y
-turned_at-requires-in-West-clause-y c = omega (arith, within_page c.args.page.now c.width.ensures.fits c.args.edge c.requires.boundary)
+pub turned_at-heading-requires-in-West-clause-y : goal.turned_at-heading-requires-in-West-clause-y
+turned_at-heading-requires-in-West-clause-y c = omega (arith, within_page c.args.edges.now.page.now c.width.ensures.fits c.args.edge c.requires.boundary)
 
 pub overflow_add-x : goal.overflow_add-x
-overflow_add-x c = omega (arith, corner c.args.page.now c.width.ensures.page c.width.ensures.fits c.args.edge c.requires.boundary)
+overflow_add-x c = omega (arith, corner c.args.edges.now.page.now c.width.ensures.page c.width.ensures.fits c.args.edge c.requires.boundary)
 
 pub overflow_add-y : goal.overflow_add-y
-overflow_add-y c = omega (arith, corner c.args.page.now c.width.ensures.page c.width.ensures.fits c.args.edge c.requires.boundary)
+overflow_add-y c = omega (arith, corner c.args.edges.now.page.now c.width.ensures.page c.width.ensures.fits c.args.edge c.requires.boundary)
 
 pub overflow_cast-x : goal.overflow_cast-x
-overflow_cast-x c = omega (arith, ints, corner c.args.page.now c.width.ensures.page c.width.ensures.fits c.args.edge c.requires.boundary)
+overflow_cast-x c = omega (arith, ints, corner c.args.edges.now.page.now c.width.ensures.page c.width.ensures.fits c.args.edge c.requires.boundary)
 
 pub overflow_cast-y : goal.overflow_cast-y
-overflow_cast-y c = omega (arith, ints, corner c.args.page.now c.width.ensures.page c.width.ensures.fits c.args.edge c.requires.boundary)
+overflow_cast-y c = omega (arith, ints, corner c.args.edges.now.page.now c.width.ensures.page c.width.ensures.fits c.args.edge c.requires.boundary)
 
 pub overflow_add-trail : goal.overflow_add-trail
-overflow_add-trail c = omega (arith, c.from.ensures, c.requires.sums.up, corner c.args.page.now c.width.ensures.page c.width.ensures.fits c.args.edge c.requires.boundary)
+overflow_add-trail c = omega (arith, c.from.ensures, c.requires.sums.up, corner c.args.edges.now.page.now c.width.ensures.page c.width.ensures.fits c.args.edge c.requires.boundary)
 
 pub overflow_add-trail-in-South : goal.overflow_add-trail-in-South
-overflow_add-trail-in-South c = omega (arith, c.from-in-South.ensures, c.requires.sums.down, corner c.args.page.now c.width.ensures.page c.width.ensures.fits c.args.edge c.requires.boundary)
+overflow_add-trail-in-South c = omega (arith, c.from-in-South.ensures, c.requires.sums.down, corner c.args.edges.now.page.now c.width.ensures.page c.width.ensures.fits c.args.edge c.requires.boundary)

@@ -3,6 +3,7 @@ use Rattle.pt_core.specs.declared.limits.TheConstants.{LONGEST_SIDE}
 use Rattle.bit_image.specs.Page.{image_of}
 use Rattle.turn_policies.specs.Boundary.{IsBoundary}
 use Rattle.turn_policies.specs.Turn.{next}
+use Rattle.path_decompose.specs.Inner.BoundaryBits.{IsSpotAt}
 use Rattle.path_decompose.specs.Inner.Trail.{edge_from, IsStraightRun}
 use Rattle.path_decompose.proofs.Runs.{edges_left}
 use Rattle.path_decompose.proofs.walk.turned_run.Given as goal
@@ -10,12 +11,13 @@ use Rattle.path_decompose.proofs.walk.turned_run.Given as goal
 abbrev pub invariant-edges : goal.invariant-edges
 invariant-edges l =
     record {
-      run : IsStraightRun (next (image_of l.page) l.policy l.sign) (edge_from l.fn.x l.fn.y l.heading) (edge_from l.x l.y l.heading) l.initial.trail l.trail;
-      boundary : IsBoundary (image_of l.page) (edge_from l.x l.y l.heading);
-      up : l.trail.up + edges_left l.page.width l.page.height l.x l.y l.heading * LONGEST_SIDE < 2 ^ 63;
-      down : l.trail.down + edges_left l.page.width l.page.height l.x l.y l.heading * LONGEST_SIDE < 2 ^ 63;
+      run : IsStraightRun (next (image_of l.edges.page.now) l.policy l.sign) (edge_from l.fn.x l.fn.y l.heading) (edge_from l.x l.y l.heading) l.initial.trail l.trail;
+      boundary : IsBoundary (image_of l.edges.page.now) (edge_from l.x l.y l.heading);
+      spot : IsSpotAt l.edges.rows l.edges.starts.now l.x l.y l.spot;
+      up : l.trail.up + edges_left l.edges.page.now.width l.edges.page.now.height l.x l.y l.heading * LONGEST_SIDE < 2 ^ 63;
+      down : l.trail.down + edges_left l.edges.page.now.width l.edges.page.now.height l.x l.y l.heading * LONGEST_SIDE < 2 ^ 63;
     }
 
 -- the edges up to the page's side
 abbrev pub decreases-edges : goal.decreases-edges
-decreases-edges l = edges_left l.page.width l.page.height l.x l.y l.heading
+decreases-edges l = edges_left l.edges.page.now.width l.edges.page.now.height l.x l.y l.heading

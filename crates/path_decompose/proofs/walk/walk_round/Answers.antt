@@ -5,32 +5,36 @@ use Rattle.path_decompose.proofs.Runs.{noted_boundary, noted_on, noted_round, le
 use Rattle.path_decompose.proofs.walk.walk_round.Goals as goal
 
 pub runs-init : goal.runs-init
-runs-init c = rw add-one (none_noted _ _ _ _ _ c.clear.ensures.points c.clear.ensures.up c.clear.ensures.down)
+runs-init c = record { noted = rw add-one (none_noted _ _ _ _ _ c.clear.ensures.points c.clear.ensures.up c.clear.ensures.down); spot = c.spot-spot.ensures }
 
 pub turned_after-requires-clause-boundary : goal.turned_after-requires-clause-boundary
-turned_after-requires-clause-boundary c = noted_boundary _ _ _ _ _ _ _ _ _ c.requires.first c.runs.invariant
+turned_after-requires-clause-boundary c = noted_boundary _ _ _ _ _ _ _ _ _ c.requires.first c.runs.invariant.noted
 
 pub turned_after-requires-clause-sums : goal.turned_after-requires-clause-sums
 turned_after-requires-clause-sums c =
-    let small = noted_small _ _ _ _ _ c.args.page.now.width c.args.page.now.height _ _ _ _ c.requires.first c.width.ensures.fits c.width.ensures.page.most_width c.width.ensures.page.most_height c.runs.invariant in
+    let small = noted_small _ _ _ _ _ c.args.page.now.width c.args.page.now.height _ _ _ _ c.requires.first c.width.ensures.fits c.width.ensures.page.most_width c.width.ensures.page.most_height c.runs.invariant.noted in
     record { up = small.1; down = small.2 }
 
 pub returns-then-is_first-clause-walk : goal.returns-then-is_first-clause-walk
 returns-then-is_first-clause-walk c =
     (noted_round _ _ _ _ _ c.args.page.now.width c.args.page.now.height _ _ _ _ c.requires.first c.width.ensures.fits c.width.ensures.page.most_width
-    c.runs.invariant c.in_ok-here.ensures.run c.in_ok-here.ensures.turns c.if-is_first.ensures).walk
+    c.runs.invariant.noted c.in_ok-after.ensures.run c.in_ok-after.ensures.turns c.if-is_first.ensures).walk
 
 pub returns-then-is_first-clause-area : goal.returns-then-is_first-clause-area
 returns-then-is_first-clause-area c =
     (noted_round _ _ _ _ _ c.args.page.now.width c.args.page.now.height _ _ _ _ c.requires.first c.width.ensures.fits c.width.ensures.page.most_width
-    c.runs.invariant c.in_ok-here.ensures.run c.in_ok-here.ensures.turns c.if-is_first.ensures).area
+    c.runs.invariant.noted c.in_ok-after.ensures.run c.in_ok-after.ensures.turns c.if-is_first.ensures).area
 
 pub runs-smaller : goal.runs-smaller
 runs-smaller c =
-    let small = noted_small _ _ _ _ _ c.args.page.now.width c.args.page.now.height _ _ _ _ c.requires.first c.width.ensures.fits c.width.ensures.page.most_width c.width.ensures.page.most_height c.runs.invariant in
-    omega (arith, small.0, length-run _ _ _ _ _ c.in_ok-here.ensures.run c.in_ok-here.ensures.turns)
+    let small = noted_small _ _ _ _ _ c.args.page.now.width c.args.page.now.height _ _ _ _ c.requires.first c.width.ensures.fits c.width.ensures.page.most_width c.width.ensures.page.most_height c.runs.invariant.noted in
+    omega (arith, small.0, length-run _ _ _ _ _ c.in_ok-after.ensures.run c.in_ok-after.ensures.turns)
 
 pub runs-preserved : goal.runs-preserved
 runs-preserved c =
-    noted_on _ _ _ _ _ c.args.page.now.width c.args.page.now.height _ _ _ _ c.requires.first c.width.ensures.fits c.width.ensures.page.most_width
-    c.runs.invariant c.in_ok-here.ensures.run c.in_ok-here.ensures.turns c.if-is_first.ensures
+    record {
+      noted =
+          noted_on _ _ _ _ _ c.args.page.now.width c.args.page.now.height _ _ _ _ c.requires.first c.width.ensures.fits c.width.ensures.page.most_width
+          c.runs.invariant.noted c.in_ok-after.ensures.run c.in_ok-after.ensures.turns c.if-is_first.ensures;
+      spot = c.in_ok-after.ensures.spot;
+    }
