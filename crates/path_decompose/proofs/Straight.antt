@@ -10,7 +10,7 @@ use Rattle.path_decompose.specs.GridEdges.{GridEdge}
 use Rattle.path_decompose.specs.Inside.{line_between, lines_of}
 use Rattle.path_decompose.specs.Inner.Blocks.{spread, AreBlocks}
 use Rattle.path_decompose.specs.Inner.BoundaryBits.{has_edge, is_along}
-use Rattle.path_decompose.specs.Inner.Taken.{IsTowards, AreWordsFor, lines_from, is_along_any, AreTakenBy, AreTakenAway}
+use Rattle.path_decompose.specs.Inner.Taken.{IsTowards, AreWordsFor, lines_from, is_along_any, AreTakenBy, AreLinesTaken}
 use Rattle.path_decompose.proofs.Corners.{lines_to-drop, lines_to-end, lines_of-drop}
 use Rattle.path_decompose.proofs.EdgeBits.{or_false}
 use Rattle.path_decompose.proofs.LineSpots.{step_at, unit_parts}
@@ -172,9 +172,9 @@ neither true true b = refl
 neither true false b = refl
 neither false a b = refl
 
-pub taken_more : (rows : ℕ) (starts : List ℕ) (points : List Point) (i j : ℕ) (old words new : List ℕ) → AreTakenAway rows starts points i j old words → j + 1 < length points
+pub taken_more : (rows : ℕ) (starts : List ℕ) (points : List Point) (i j : ℕ) (old words new : List ℕ) → AreLinesTaken rows starts points i j old words → j + 1 < length points
     → AreTakenBy rows starts (λ k u v. is_along k u v (line_between (get_or points j origin) (get_or points (j + 1) origin))) words new
-    → AreTakenAway rows starts points i (j + 1) old new
+    → AreLinesTaken rows starts points i (j + 1) old new
 taken_more rows starts points i j old words new far short now =
     record {
       blocks = now.blocks;
@@ -189,15 +189,12 @@ taken_more rows starts points i j old words new far short now =
           ∙ far.edges k u v p;
     }
 
-pub taken_on : (rows : ℕ) (starts : List ℕ) (points : List Point) (i j h : ℕ) (old words new : List ℕ) → AreTakenAway rows starts points i j old words → AreTakenAway rows starts points j h words new → AreTakenAway rows starts points i h old new
-taken_on rows starts points i j h old words new far more = record { blocks = more.blocks; edges = λ k u v p. more.edges k u v p ∙ far.edges k u v p }
-
 -- nothing is taken away yet
-pub none_taken : (rows : ℕ) (starts : List ℕ) (points : List Point) (i : ℕ) (words : List ℕ) → AreBlocks starts words → AreTakenAway rows starts points i i words words
+pub none_taken : (rows : ℕ) (starts : List ℕ) (points : List Point) (i : ℕ) (words : List ℕ) → AreBlocks starts words → AreLinesTaken rows starts points i i words words
 none_taken rows starts points i words blocks = record { blocks = blocks; edges = λ k u v p. refl }
 
 -- the last line goes back to the first corner
-pub all_taken : (rows : ℕ) (starts : List ℕ) (points : List Point) (at last : ℕ) (old words new : List ℕ) → at ≡ last → last + 1 ≡ length points → AreTakenAway rows starts points 0 at old words
+pub all_taken : (rows : ℕ) (starts : List ℕ) (points : List Point) (at last : ℕ) (old words new : List ℕ) → at ≡ last → last + 1 ≡ length points → AreLinesTaken rows starts points 0 at old words
     → AreTakenBy rows starts (λ k u v. is_along k u v (line_between (get_or points last origin) (get_or points 0 origin))) words new
     → AreTakenBy rows starts (is_along_any (lines_of points)) old new
 all_taken rows starts points at last old words new here end far now =

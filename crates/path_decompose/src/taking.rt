@@ -5,7 +5,7 @@
 ghost use Rattle.std.specs.Prelude.{◌≡◌, ℕ, ◌+◌, ◌*◌, ◌≤◌, ◌<◌, ◌^◌, ◌&&◌, not, length, All};
 ghost use Rattle.path_decompose.specs.Inner.Blocks.{AreBlocks};
 ghost use Rattle.path_decompose.specs.Inner.BoundaryBits.{has_edge, FitsStrips, is_along};
-ghost use Rattle.path_decompose.specs.Inner.Taken.{IsSpotOf, IsTowards, AreWordsFor, corner_of, is_along_any, AreTakenBy, AreTakenAway};
+ghost use Rattle.path_decompose.specs.Inner.Taken.{IsSpotOf, IsTowards, AreWordsFor, corner_of, is_along_any, AreTakenBy, AreLinesTaken};
 ghost use Rattle.path_decompose.specs.Inside.{line_between, lines_of};
 ghost use Rattle.pt_core.specs.ClosedWalk.{IsUnitStep, IsClosedWalk};
 
@@ -75,7 +75,7 @@ fn take_stretch(
     requires blocks { AreBlocks starts.now words.old }
     requires order { (from ≤ to) × (to ≤ from + STRETCH) × (to < length points.now) }
     requires spot { IsSpotOf rows starts.now (corner_of points.now from) spot }
-    ensures taken { AreTakenAway rows starts.now points.now from to words.old words.new }
+    ensures taken { AreLinesTaken rows starts.now points.now from to words.old words.new }
     ensures spot { IsSpotOf rows starts.now (corner_of points.now to) result }
 {
     let (here, there) = (points[from], points[to]);
@@ -110,7 +110,7 @@ fn take_run(
     requires straight { (i : ℕ) → from ≤ i → i < from + STRETCH
         → IsTowards heading (corner_of points.now i) (corner_of points.now (i + 1)) }
     requires spot { IsSpotOf rows starts.now (corner_of points.now from) spot }
-    ensures taken { AreTakenAway rows starts.now points.now from (from + STRETCH) words.old words.new }
+    ensures taken { AreLinesTaken rows starts.now points.now from (from + STRETCH) words.old words.new }
     ensures spot { IsSpotOf rows starts.now (corner_of points.now (from + STRETCH)) result }
 {
     // The corners between are read only where a line leaves its strip.
@@ -137,7 +137,7 @@ fn take_lines(
     requires blocks { AreBlocks starts.now words.old }
     requires order { (from ≤ to) × (to < length points.now) }
     requires spot { IsSpotOf rows starts.now (corner_of points.now from) spot }
-    ensures taken { AreTakenAway rows starts.now points.now from to words.old words.new }
+    ensures taken { AreLinesTaken rows starts.now points.now from to words.old words.new }
     ensures spot { IsSpotOf rows starts.now (corner_of points.now to) result }
 {
     'lines: for i in from..to {

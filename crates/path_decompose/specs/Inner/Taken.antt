@@ -47,7 +47,7 @@ pub record AreTakenBy (rows : ℕ) (starts : List ℕ) (test : ℕ → ℕ → �
 
 -- The edges along a closed walk's lines from its corner i to its corner j are taken away. Others are left, but for those along the
 -- lines that follow, of which nothing is said.
-pub record AreTakenAway (rows : ℕ) (starts : List ℕ) (points : List Point) (i j : ℕ) (old new : List ℕ) : Type 0 where
+pub record AreLinesTaken (rows : ℕ) (starts : List ℕ) (points : List Point) (i j : ℕ) (old new : List ℕ) : Type 0 where
   pub blocks : AreBlocks starts new
   pub edges : (k u v : ℕ) → k < 2
       → has_edge rows (spread starts new) k u v && not (is_along_any (lines_from points j) k u v)

@@ -1,10 +1,10 @@
-use Rattle.path_decompose.specs.Inner.Taken.{IsSpotOf, corner_of, AreTakenAway}
+use Rattle.path_decompose.specs.Inner.Taken.{IsSpotOf, corner_of, AreLinesTaken}
 use Rattle.path_decompose.proofs.taking.take_lines.Given as goal
 
 -- the lines so far
 abbrev pub invariant-lines : goal.invariant-lines
 invariant-lines l =
     record {
-      taken : AreTakenAway l.rows l.starts l.points l.from l.i l.fn.words l.words;
+      taken : AreLinesTaken l.rows l.starts l.points l.from l.i l.fn.words l.words;
       spot : IsSpotOf l.rows l.starts (corner_of l.points l.i) l.spot;
     }

@@ -1,5 +1,5 @@
 use Rattle.std.proofs.Common.{◌≡◌, ◌+◌, arith, subst}
-use Rattle.path_decompose.specs.Inner.Taken.{AreTakenAway}
+use Rattle.path_decompose.specs.Inner.Taken.{AreLinesTaken}
 use Rattle.path_decompose.proofs.Straight.{none_taken, taken_more}
 use Rattle.path_decompose.proofs.taking.take_run.Goals as goal
 
@@ -17,4 +17,4 @@ lines-preserved c =
 pub returns-clause-taken : goal.returns-clause-taken
 returns-clause-taken c =
     let end : c.lines.i ≡ c.args.from + 32 = omega (arith, c.lines-test.false, c.lines.auto.i-end) in
-    subst (λ i. AreTakenAway c.args.rows c.args.starts.now c.args.points.now c.args.from i c.args.words.now c.lines.words) end c.lines.invariant.taken
+    subst (λ i. AreLinesTaken c.args.rows c.args.starts.now c.args.points.now c.args.from i c.args.words.now c.lines.words) end c.lines.invariant.taken

@@ -3,7 +3,7 @@ use Rattle.std.proofs.Common.{arith, subst, sym}
 use Rattle.std.proofs.lemmas.Int.{ints}
 use Rattle.pt_core.specs.ClosedWalk.{origin}
 use Rattle.turn_policies.specs.declared.heading.Dir.TheVariants.{North, East, South, West}
-use Rattle.path_decompose.specs.Inner.Taken.{IsSpotOf, AreTakenAway, corner_of}
+use Rattle.path_decompose.specs.Inner.Taken.{IsSpotOf, AreLinesTaken, corner_of}
 use Rattle.path_decompose.proofs.Straight.{run_of}
 use Rattle.path_decompose.proofs.taking.take_stretch.Goals as goal
 
@@ -28,7 +28,7 @@ returns-then-up-clause-taken c =
     let here = c.requires.words.room c.args.from origin (omega (arith, c.requires.order.0, c.requires.order.2)) in
     let there = c.requires.words.room c.args.to origin c.requires.order.2 in
     let run = run_of North c.args.rows _ c.args.points.now c.args.from c.args.to c.requires.words c.requires.order (omega (arith, ints, c.if-up.true, here.above, here.height, there.above, there.height)) in
-    subst (λ j. AreTakenAway c.args.rows c.args.starts.now c.args.points.now c.args.from j c.args.words.now c.take_run.new.words) (sym run.end) c.take_run.ensures.taken
+    subst (λ j. AreLinesTaken c.args.rows c.args.starts.now c.args.points.now c.args.from j c.args.words.now c.take_run.new.words) (sym run.end) c.take_run.ensures.taken
 
 pub returns-then-up-clause-spot : goal.returns-then-up-clause-spot
 returns-then-up-clause-spot c =
@@ -58,7 +58,7 @@ returns-then-up-2-clause-taken c =
     let here = c.requires.words.room c.args.from origin (omega (arith, c.requires.order.0, c.requires.order.2)) in
     let there = c.requires.words.room c.args.to origin c.requires.order.2 in
     let run = run_of South c.args.rows _ c.args.points.now c.args.from c.args.to c.requires.words c.requires.order (omega (arith, ints, c.if-up-2.true, here.above, here.height, there.above, there.height)) in
-    subst (λ j. AreTakenAway c.args.rows c.args.starts.now c.args.points.now c.args.from j c.args.words.now c.take_run-then-up-2.new.words) (sym run.end) c.take_run-then-up-2.ensures.taken
+    subst (λ j. AreLinesTaken c.args.rows c.args.starts.now c.args.points.now c.args.from j c.args.words.now c.take_run-then-up-2.new.words) (sym run.end) c.take_run-then-up-2.ensures.taken
 
 pub returns-then-up-2-clause-spot : goal.returns-then-up-2-clause-spot
 returns-then-up-2-clause-spot c =
@@ -88,7 +88,7 @@ returns-then-right-clause-taken c =
     let here = c.requires.words.room c.args.from origin (omega (arith, c.requires.order.0, c.requires.order.2)) in
     let there = c.requires.words.room c.args.to origin c.requires.order.2 in
     let run = run_of East c.args.rows _ c.args.points.now c.args.from c.args.to c.requires.words c.requires.order (omega (arith, ints, c.if-right.true, here.right, here.column, there.right, there.column)) in
-    subst (λ j. AreTakenAway c.args.rows c.args.starts.now c.args.points.now c.args.from j c.args.words.now c.take_run-then-right.new.words) (sym run.end) c.take_run-then-right.ensures.taken
+    subst (λ j. AreLinesTaken c.args.rows c.args.starts.now c.args.points.now c.args.from j c.args.words.now c.take_run-then-right.new.words) (sym run.end) c.take_run-then-right.ensures.taken
 
 pub returns-then-right-clause-spot : goal.returns-then-right-clause-spot
 returns-then-right-clause-spot c =
@@ -118,7 +118,7 @@ returns-then-right-2-clause-taken c =
     let here = c.requires.words.room c.args.from origin (omega (arith, c.requires.order.0, c.requires.order.2)) in
     let there = c.requires.words.room c.args.to origin c.requires.order.2 in
     let run = run_of West c.args.rows _ c.args.points.now c.args.from c.args.to c.requires.words c.requires.order (omega (arith, ints, c.if-right-2.true, here.right, here.column, there.right, there.column)) in
-    subst (λ j. AreTakenAway c.args.rows c.args.starts.now c.args.points.now c.args.from j c.args.words.now c.take_run-then-right-2.new.words) (sym run.end) c.take_run-then-right-2.ensures.taken
+    subst (λ j. AreLinesTaken c.args.rows c.args.starts.now c.args.points.now c.args.from j c.args.words.now c.take_run-then-right-2.new.words) (sym run.end) c.take_run-then-right-2.ensures.taken
 
 pub returns-then-right-2-clause-spot : goal.returns-then-right-2-clause-spot
 returns-then-right-2-clause-spot c =

@@ -1,5 +1,5 @@
 use Rattle.std.proofs.Common.{◌<◌, ◌-◌, length}
-use Rattle.path_decompose.specs.Inner.Taken.{IsSpotOf, corner_of, AreTakenAway}
+use Rattle.path_decompose.specs.Inner.Taken.{IsSpotOf, corner_of, AreLinesTaken}
 use Rattle.path_decompose.proofs.taking.take_stretches.Given as goal
 
 -- the lines so far
@@ -7,7 +7,7 @@ abbrev pub invariant-stretches : goal.invariant-stretches
 invariant-stretches l =
     record {
       inside : l.at < length l.points;
-      taken : AreTakenAway l.rows l.starts l.points 0 l.at l.fn.words l.words;
+      taken : AreLinesTaken l.rows l.starts l.points 0 l.at l.fn.words l.words;
       spot : IsSpotOf l.rows l.starts (corner_of l.points l.at) l.spot;
     }
 
