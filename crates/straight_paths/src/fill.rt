@@ -9,6 +9,7 @@ ghost use Rattle.straight_paths.specs.Inner.Tables.{IsWordTable};
 ghost use Rattle.straight_paths.specs.Inner.Tails.{AreStraight, both_back_of, last_of, limit_of};
 
 use crate::first::clear_steps;
+use crate::laps::point_of_lap;
 use crate::strip::Strip;
 use crate::sweep::{Seen, Sweep};
 use crate::table::Table;
@@ -228,13 +229,15 @@ fn held_on(
     ensures seen { IsSeen track.now last result.index result.seen }
     ensures ends { AreEndsFrom track.now last lap result.index steps.new }
 {
-    let start = Hold { index: from, seen };
-    let mut hold = held_by_strip(track, last, lap, start, steps);
-    while hold.index > lap && table.used == 0 {
-        let scanned = held_by_scan(track, last, lap, hold, steps);
-        hold = held_by_strip(track, last, lap, scanned, steps);
+    let mut hold = Hold { index: from, seen };
+    // One place asks for the strip, so that all of it is a part of this loop and no strip is handed on through memory.
+    loop {
+        hold = held_by_strip(track, last, lap, hold, steps);
+        if hold.index == lap || table.used > 0 {
+            return hold;
+        }
+        hold = held_by_scan(track, last, lap, hold, steps);
     }
-    hold
 }
 
 /// Writes down how many steps are straight from one index earlier, by the cones from there.
@@ -272,9 +275,9 @@ fn held_by_strip(track: &Track, last: usize, lap: usize, start: Hold, steps: &mu
     if !strip.back.is_nowhere() || tail.ahead.behind(strip.quarter) < tail.end {
         return held_by_steps(track, last, lap, start, steps);
     }
-    let hold = onward_back(track, last, lap, start.index, tail, strip, steps);
+    let (hold, goes_back) = onward_back(track, last, lap, start.index, tail, strip, steps);
     // A step onward that isn't held isn't asked for twice.
-    if hold.index == lap || strip.quarter.is_onward(track.step(hold.index - 1)) {
+    if !goes_back {
         return hold;
     }
     held_by_steps(track, last, lap, hold, steps)
@@ -300,10 +303,14 @@ fn held_by_steps(track: &Track, last: usize, lap: usize, start: Hold, steps: &mu
 }
 
 /// The same as long as no step goes back, for a strip with no point behind, where one of the directions that go back isn't
-/// taken before the tail's end.
+/// taken before the tail's end; and whether it ended since a step goes back.
 //
 // Along such steps the two directions that go back are taken as late as before. So nothing ends sooner but by the limit, and
 // what is behind isn't asked.
+//
+// Each point is looked up once: the later one of a step is the earlier one of the step before. All of them are in one lap,
+// so that the lookups ask for none.
+#[inline(always)]
 fn onward_back(
     track: &Track,
     last: usize,
@@ -312,29 +319,40 @@ fn onward_back(
     tail: Tail,
     start: Strip,
     steps: &mut [u32],
-) -> Hold
+) -> (Hold, bool)
     requires behind { tail.end ≤ both_back_of start.quarter tail.ahead }
     requires seen { IsSeen track.now last from (record { tail = tail; strip = Some start }) }
     requires ends { AreEndsFrom track.now last lap from steps.old }
-    ensures index { result.index ≤ from }
-    ensures seen { IsSeen track.now last result.index result.seen }
-    ensures ends { AreEndsFrom track.now last lap result.index steps.new }
+    ensures index { result.0.index ≤ from }
+    ensures seen { IsSeen track.now last result.0.index result.0.seen }
+    ensures ends { AreEndsFrom track.now last lap result.0.index steps.new }
 {
     let limit = track.limit();
+    let points = track.points();
+    let begin = track.lap_before(from);
+    let low = later_of(lap, begin);
     let mut index = from;
     let mut ahead = tail.ahead;
     let mut strip = start;
-    while index > lap {
-        let step = track.step(index - 1);
+    let mut there = track.point(from);
+    let mut goes_back = false;
+    while index > low {
+        let here = point_of_lap(points, begin, index - 1);
+        let step = Vector::between(here, there);
+        if !strip.quarter.is_onward(step) {
+            goes_back = true;
+            break;
+        }
         let Some(earlier) = strip.onward(step) else {
             break;
         };
         strip = earlier;
+        there = here;
         index -= 1;
         ahead = ahead.sooner(step, index);
         steps[index - lap] = min(tail.end - index, limit) as u32;
     }
-    Hold {
+    let hold = Hold {
         index,
         seen: Seen {
             tail: Tail {
@@ -343,7 +361,17 @@ fn onward_back(
             },
             strip: Some(strip),
         },
-    }
+    };
+    (hold, goes_back)
+}
+
+/// The later of two indices.
+#[inline(always)]
+fn later_of(one: usize, other: usize) -> usize
+    ensures first { one ≤ result }
+    ensures second { other ≤ result }
+{
+    if one < other { other } else { one }
 }
 
 /// The same by the straight runs along a row or a column.

@@ -30,6 +30,7 @@ pub(crate) struct Swing {
 
 impl Swing {
     /// At the path's start.
+    #[inline(always)]
     fn start(track: &Track, first: usize, most: usize, quarter: Quarter, way: Vector) -> Swing
         requires subpath { IsSubpath track.now first most }
         requires some { 1 ≤ most }
@@ -107,6 +108,7 @@ impl Swing {
 /// The swing at the last corner before so many steps.
 //
 // Two runs at a time, so that the two kinds of steps need not change places.
+#[inline(always)]
 fn last_swing(track: &Track, first: usize, most: usize, start: Swing) -> Swing
     requires subpath { IsSubpath track.now first most }
     requires swing { IsSwing track.now first most start }
@@ -142,6 +144,7 @@ fn swing_within(track: &Track, first: usize, most: usize, in_lap: bool, start: S
 }
 
 /// How far the path from this point goes to each side of a way, in so many steps, none of which goes back in the quarter.
+#[inline(always)]
 pub(crate) fn sway_along(
     track: &Track,
     first: usize,

@@ -1,11 +1,11 @@
 //! The search for a strip that holds what is straight from a point on: ways are tried, simple ones first.
-ghost use Rattle.std.specs.Prelude.{◌≤◌, ℕ, unsigned_abs, IfSome};
+ghost use Rattle.std.specs.Prelude.{◌≤◌, ℕ, ◌*ℤ◌, ◌≤ℤ◌, pos, unsigned_abs, IfSome};
 ghost use Rattle.straight_paths.specs.Inner.Cones.{IsShort, IsSound};
 ghost use Rattle.straight_paths.specs.Inner.Slopes.{AreSmallSlopes};
 ghost use Rattle.straight_paths.specs.Straight.{path_from};
 ghost use Rattle.pt_core.specs.declared.point.Point.{Point};
 ghost use Rattle.straight_paths.specs.Inner.Tails.{IsSubpath};
-ghost use Rattle.straight_paths.specs.Inner.Strips.{AreUpTo, HoldsPath, IsSway};
+ghost use Rattle.straight_paths.specs.Inner.Strips.{AreUpTo, GoesAllOnward, HoldsPath, IsSway};
 ghost use Rattle.straight_paths.specs.Inner.Swings.{SwaysOn};
 ghost use Rattle.straight_paths.specs.Inner.Wedges.{IsQuarter};
 ghost use Rattle.straight_paths.specs.declared.vector.Vector.{Vector};
@@ -138,6 +138,23 @@ pub(crate) fn strip_from(track: &Track, first: usize, steps: usize, cone: Cone) 
     requires cone { IsSound cone }
     ensures { IfSome result (λ strip. HoldsPath strip (path_from track.now first) steps) }
 {
+    let quarter = Quarter::of(track.way(first, steps));
+    match onward_to(track, first, steps, quarter) {
+        Some(onward) if steps >= SHORT => {
+            let slopes = Slopes::of(cone, quarter);
+            simplest_onward(track, first, steps, quarter, onward, slopes)
+        }
+        _ => strip_around(track, first, steps, cone),
+    }
+}
+
+/// The same where the path may go back, or the steps are few.
+#[inline(never)]
+fn strip_around(track: &Track, first: usize, steps: usize, cone: Cone) -> Option<Strip>
+    requires subpath { IsSubpath track.now first steps }
+    requires cone { IsSound cone }
+    ensures { IfSome result (λ strip. HoldsPath strip (path_from track.now first) steps) }
+{
     let chord = track.way(first, steps);
     if steps < SHORT {
         return strip_along(track, first, steps, chord).strip;
@@ -183,11 +200,54 @@ fn simplest_strip(
     None
 }
 
-/// The strip along a way in which the path from this point stays for so many steps, if it does.
+/// The same, where the path goes so far into the quarter, and none of its steps goes back there.
 //
-// Where the path goes as far into the way's quarter as it has steps, none of its steps goes back there. Then all that is
-// asked of its corners is how far across the way they are. Of maps and text nearly all subpaths are like that.
+// What is asked of all ways alike is asked before the first one. All of it is one function, so that no trial is handed on
+// through memory.
 #[inline(always)]
+fn simplest_onward(
+    track: &Track,
+    first: usize,
+    steps: usize,
+    quarter: Quarter,
+    onward: Vector,
+    slopes: Slopes,
+) -> Option<Strip>
+    requires subpath { IsSubpath track.now first steps }
+    requires onward { GoesAllOnward track.now first steps quarter onward }
+    requires slopes { AreSmallSlopes slopes }
+    ensures { IfSome result (λ strip. HoldsPath strip (path_from track.now first) steps) }
+{
+    let mut slopes = slopes;
+    for _ in 0..MOST_TRIALS {
+        let way = quarter.turned(slopes.simplest()?.way());
+        let trial = strip_onward(track, first, steps, quarter, onward, way);
+        if trial.strip.is_some() {
+            return trial.strip;
+        }
+        slopes = slopes.cut(trial.ends.apart(track, first, quarter))?;
+    }
+    None
+}
+
+/// How far the path from this point goes into a quarter in so many steps, if there are any and none of them goes back there.
+//
+// None does where the path goes as far into the quarter as it has steps.
+#[inline(always)]
+fn onward_to(track: &Track, first: usize, most: usize, quarter: Quarter) -> Option<Vector>
+    requires subpath { IsSubpath track.now first most }
+    requires quarter { IsQuarter quarter }
+    ensures { IfSome result (GoesAllOnward track.now first most quarter) }
+{
+    let onward = quarter.turned(track.way(first, most));
+    if most == 0 || onward.x + onward.y != most as i64 {
+        return None;
+    }
+    Some(onward)
+}
+
+/// The strip along a way in which the path from this point stays for so many steps, if it does.
+#[inline(never)]
 fn strip_along(track: &Track, first: usize, most: usize, way: Vector) -> StripTrial
     requires subpath { IsSubpath track.now first most }
     requires short { IsShort 65535 way }
@@ -195,10 +255,33 @@ fn strip_along(track: &Track, first: usize, most: usize, way: Vector) -> StripTr
     ensures strip { IfSome result.strip (λ strip. HoldsPath strip (path_from track.now first) most) }
 {
     let quarter = Quarter::of(way);
-    let onward = quarter.turned(track.way(first, most));
-    if most == 0 || onward.x + onward.y != most as i64 {
-        return strip_by_extent(track, first, most, way);
+    match onward_to(track, first, most, quarter) {
+        Some(onward) => strip_onward(track, first, most, quarter, onward, way),
+        None => strip_by_extent(track, first, most, way),
     }
+}
+
+/// The same strip, where the path goes so far into the way's quarter, and none of its steps goes back there.
+//
+// Then all that is asked of its corners is how far across the way they are. Of maps and text nearly all subpaths are like
+// that.
+#[inline(always)]
+fn strip_onward(
+    track: &Track,
+    first: usize,
+    most: usize,
+    quarter: Quarter,
+    onward: Vector,
+    way: Vector,
+) -> StripTrial
+    requires subpath { IsSubpath track.now first most }
+    requires onward { GoesAllOnward track.now first most quarter onward }
+    requires right { pos 0 ≤ℤ (quarter.right *ℤ way.x) }
+    requires up { pos 0 ≤ℤ (quarter.up *ℤ way.y) }
+    requires short { IsShort 65535 way }
+    ensures ends { AreUpTo most result.ends }
+    ensures strip { IfSome result.strip (λ strip. HoldsPath strip (path_from track.now first) most) }
+{
     let sway = sway_along(track, first, most, quarter, way);
     let extent = Extent {
         across: sway.span,

@@ -1,10 +1,12 @@
 -- Strips of the plane that are as broad as a line drawn in pixels: from one border to the other the cross product
 -- with the strip's way grows by what the way goes along rows and columns together (Reveillès' standard digital lines,
 -- 1991, with both borders).
-use Rattle.std.specs.Prelude.{◌≡◌, ℕ, suc, ◌+◌, ◌≤◌, ◌^◌, ℤ, pos, negsuc, neg_ℤ, ◌+ℤ◌, ◌-ℤ◌, ◌*ℤ◌, ◌≤ℤ◌, ◌<ℤ◌}
+use Rattle.std.specs.Prelude.{◌≡◌, List, ℕ, suc, ◌+◌, ◌≤◌, ◌^◌, ℤ, pos, negsuc, neg_ℤ, ◌+ℤ◌, ◌-ℤ◌, ◌*ℤ◌, ◌≤ℤ◌, ◌<ℤ◌}
+use Rattle.pt_core.specs.ClosedWalk.{IsClosedWalk}
 use Rattle.pt_core.specs.declared.point.Point.{Point}
 use Rattle.straight_paths.specs.Cones.{cross_of}
 use Rattle.straight_paths.specs.Corners.{step_from}
+use Rattle.straight_paths.specs.Straight.{path_from}
 use Rattle.straight_paths.specs.Inner.Cones.{IsShort}
 use Rattle.straight_paths.specs.Inner.Tails.{way_along}
 use Rattle.straight_paths.specs.Inner.Wedges.{IsQuarter, far_of}
@@ -139,3 +141,14 @@ pub record IsSway (way : Vector) (path : ℕ → Point) (count : ℕ) (sway : Sw
   pub small : IsSpan (neg_ℤ (pos (2 ^ 34))) (pos (2 ^ 34)) sway.span
   pub span : AreInSpan sway.span (across_at way path) count
   pub ends : AreUpTo count sway.ends
+
+-- the subpath of so many steps from a point, at least one, goes so far to the right and up in the quarter: none of its steps
+-- goes back there
+pub record GoesAllOnward (points : List Point) (first most : ℕ) (quarter : Quarter) (onward : Vector) : Type 0 where
+  pub walk : IsClosedWalk points
+  pub some : 1 ≤ most
+  pub is_quarter : IsQuarter quarter
+  pub short : IsShort 65535 (way_along (path_from points first) most)
+  pub right : onward.x ≡ right_at quarter (path_from points first) most
+  pub up : onward.y ≡ up_at quarter (path_from points first) most
+  pub all : (onward.x +ℤ onward.y) ≡ pos most
