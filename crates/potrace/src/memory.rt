@@ -2,8 +2,11 @@
 
 use std::alloc::Global;
 
-/// How many bytes glibc is to keep: about the most, which is 32 MiB with what it adds to a list.
-const KEPT: usize = 31 << 20;
+/// Up to how many bytes glibc is to keep a list's memory.
+//
+// Most pages have no longer lists. Longer ones grow in place where the system has them, and would leave holes among the others:
+// with 31 MiB a page of dots takes a third more memory.
+const KEPT: usize = 2 << 20;
 
 /// Has glibc keep the memory of lists that are given back, for others to use.
 //
