@@ -44,6 +44,9 @@ unit_cross way unit short small =
     let q = product_most way.y unit.x 65535 1 short.y small.x in
     omega (arith, ints)
 
+small_back : (z : ℤ) → unsigned_abs z ≤ 131072 → to_z w64 (of_z w64 z) ≡ z
+small_back z h = omega (arith, ints)
+
 -- such a number is passed as it is
 pub across_back : (z : ℤ) → unsigned_abs z ≤ 8589934592 → to_z w64 (of_z w64 z) ≡ z
 across_back z h = omega (arith, ints)
@@ -149,6 +152,10 @@ row_unit q signs = record { x = sign_small q.right signs.right; y = omega arith 
 
 pub column_unit : (q : Quarter) → IsQuarter q → IsShort 1 (column_step q)
 column_unit q signs = record { x = omega arith; y = sign_small q.up signs.up }
+
+-- how far a unit step goes across the way is passed as it is
+pub unit_passed : (way unit : Vector) (r : ℤ) → r ≡ cross_of way unit → IsShort 65535 way → IsShort 1 unit → to_z w64 (of_z w64 r) ≡ cross_of way unit
+unit_passed way unit r is short small = small_back r (rw is (unit_cross way unit short small)) ∙ is
 
 no_zero : (z : ℤ) → z ≡ pos 1 → z ≡ pos 0 → ⊥
 no_zero z e f = absurd (omega (arith, ints))

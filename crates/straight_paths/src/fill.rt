@@ -10,7 +10,7 @@ ghost use Rattle.straight_paths.specs.Inner.Tails.{AreStraight, both_back_of, la
 
 use crate::first::clear_steps;
 use crate::laps::point_of_lap;
-use crate::strip::Strip;
+use crate::strip::{Strides, Strip};
 use crate::sweep::{Seen, Sweep};
 use crate::table::Table;
 use crate::tail::Tail;
@@ -331,6 +331,7 @@ fn onward_back(
     let points = track.points();
     let begin = track.lap_before(from);
     let low = later_of(lap, begin);
+    let strides = Strides::new(start.quarter, start.way);
     let mut index = from;
     let mut ahead = tail.ahead;
     let mut strip = start;
@@ -343,7 +344,7 @@ fn onward_back(
             goes_back = true;
             break;
         }
-        let Some(earlier) = strip.onward(step) else {
+        let Some(earlier) = strip.onward(step, strides) else {
             break;
         };
         strip = earlier;
@@ -413,6 +414,7 @@ fn held_back(track: &Track, last: usize, lap: usize, hold: Hold, steps: &mut [u3
 }
 
 /// Writes down how many steps are straight from the earlier points of a straight run, if the strip stays as it is along it.
+#[inline(always)]
 fn held_along(track: &Track, last: usize, lap: usize, hold: Hold, steps: &mut [u32]) -> Hold
     requires before { hold.index < last }
     requires seen { IsSeen track.now last hold.index hold.seen }
@@ -447,6 +449,7 @@ fn held_along(track: &Track, last: usize, lap: usize, hold: Hold, steps: &mut [u
 //
 // Along the run one direction is taken sooner, and the others as late as before. So nothing ends sooner but by the limit, and
 // where the steps are taken is told once for the whole run.
+#[inline(always)]
 fn run_back(
     track: &Track,
     last: usize,

@@ -9,6 +9,7 @@ ghost use Rattle.straight_paths.specs.Inner.Tails.{IsSubpath};
 ghost use Rattle.straight_paths.specs.Inner.Wedges.{IsQuarter};
 
 use crate::quarter::Quarter;
+use crate::strip::Strides;
 use crate::track::Track;
 use crate::trial::Sway;
 use crate::vector::Vector;
@@ -40,14 +41,7 @@ impl Swing {
         ensures swing { IsSwing track.now first most result }
         ensures way { result.way ≡ way }
     {
-        let row = way.cross(Vector {
-            x: quarter.right,
-            y: 0,
-        });
-        let column = way.cross(Vector {
-            x: 0,
-            y: quarter.up,
-        });
+        let Strides { row, column } = Strides::new(quarter, way);
         let next = track.corner_after(first, 0);
         if track.step(first).is_upright() {
             return Swing {

@@ -14,6 +14,7 @@ use Rattle.straight_paths.specs.declared.vector.Vector.{Vector}
 use Rattle.straight_paths.specs.declared.quarter.Quarter.{Quarter}
 use Rattle.straight_paths.specs.declared.strip.Extent.{Extent}
 use Rattle.straight_paths.specs.declared.strip.Span.{Span}
+use Rattle.straight_paths.specs.declared.strip.Strides.{Strides}
 use Rattle.straight_paths.specs.declared.strip.Strip.{Strip}
 use Rattle.straight_paths.specs.declared.trial.Ends.{Ends}
 use Rattle.straight_paths.specs.declared.trial.Sway.{Sway}
@@ -86,6 +87,11 @@ pub record IsAcrossBefore (later : Strip) (step : Vector) (across : Span) : Type
   pub least : across.least ≤ℤ (later.across.least +ℤ cross_of later.way step)
   pub greatest : (later.across.greatest +ℤ cross_of later.way step) ≤ℤ across.greatest
   pub narrow : (across.greatest -ℤ across.least) ≤ℤ later.breadth
+
+-- how far a step along a row and one along a column go across the way, where they go onward in the quarter
+pub record AreStrides (quarter : Quarter) (way : Vector) (strides : Strides) : Type 0 where
+  pub row : strides.row ≡ cross_of way (record { x = quarter.right; y = pos 0 })
+  pub column : strides.column ≡ cross_of way (record { x = pos 0; y = quarter.up })
 
 -- 0 alone
 abbrev pub no_span : Span

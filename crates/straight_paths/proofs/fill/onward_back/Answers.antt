@@ -7,7 +7,7 @@ use Rattle.straight_paths.specs.Inner.Tails.{both_back_of, limit_of}
 use Rattle.straight_paths.specs.declared.quarter.Quarter.{Quarter}
 use Rattle.straight_paths.specs.Straight.{vector_of}
 use Rattle.straight_paths.specs.declared.vector.Vector.{Vector}
-use Rattle.straight_paths.proofs.Coding.{step_short}
+use Rattle.straight_paths.proofs.Coding.{goes_by_one, step_short}
 use Rattle.straight_paths.proofs.Cyclic.{step_between}
 use Rattle.straight_paths.proofs.Ends.{lesser_is}
 use Rattle.straight_paths.proofs.Runs.{behind_as_late, behind_of_four, seen_by, seen_by_step}
@@ -33,6 +33,7 @@ loop-index-init c =
     record {
       index = omega arith;
       there = c.point-there.ensures;
+      strides = c.new-strides.ensures;
       behind = c.requires.behind;
       seen = subst (λ (n : ℕ). IsSeen points c.args.last c.args.from (seen_by c.args.start n c.args.tail.ahead)) e c.requires.seen;
       ends = c.requires.ends;
@@ -55,7 +56,7 @@ loop-index-preserved c =
     let ahead = c.loop-index.ahead in
     let sooner = c.sooner-ahead.result in
     let earlier = c.in-Some.earlier in
-    let before = c.in-Some.ensures in
+    let before = c.in-Some.ensures.strip in
     let quarter = inv.seen.strip.is_strip.quarter in
     let old : ℕ = min c.args.tail.end (index + 1 + limit_of points) in
     let end : ℕ = min c.args.tail.end (index + limit_of points) in
@@ -70,6 +71,7 @@ loop-index-preserved c =
     record {
       index = omega arith;
       there = here;
+      strides = c.in-Some.ensures.strides;
       behind = subst (λ (q : Quarter). c.args.tail.end ≤ both_back_of q sooner) (sym before.same_quarter) behind_here;
       seen = seen;
       ends = one_more points c.args.last c.args.lap index c.min.result c.loop-index.steps
@@ -91,8 +93,9 @@ pub onward-requires-clause-step : goal.onward-requires-clause-step
 onward-requires-clause-step c =
     let some = c.loop-index-test.true in
     let e : c.loop-index.index ≡ c.loop-index.index - 1 + 1 = omega arith in
-    unit_between c.args.track.now c.points-points.result.now (c.loop-index.index - 1) c.loop-index.index c.point_of_lap-here.result c.loop-index.there
-    c.between-step.result c.limit-limit.ensures.closed e c.points-points.ensures c.point_of_lap-here.ensures c.loop-index.invariant.there c.between-step.ensures
+    goes_by_one c.args.track.now (c.loop-index.index - 1) c.between-step.result c.limit-limit.ensures.closed
+    (is_step c.args.track.now c.points-points.result.now (c.loop-index.index - 1) c.loop-index.index c.point_of_lap-here.result c.loop-index.there
+    c.between-step.result e c.points-points.ensures c.point_of_lap-here.ensures c.loop-index.invariant.there c.between-step.ensures)
 
 pub overflow_cast-steps : goal.overflow_cast-steps
 overflow_cast-steps c =

@@ -39,7 +39,7 @@ cross_passed z h = rw (back z (omega arith)) (omega arith)
 
 pub shifted-across-requires-clause-by : goal.shifted-across-requires-clause-by
 shifted-across-requires-clause-by c =
-    cross_passed c.cross.result (cross_most c.args.self.way c.args.step c.cross.result c.requires.strip.short c.requires.step c.cross.ensures)
+    cross_passed c.args.by (cross_most c.args.self.way c.args.step c.args.by c.requires.strip.short c.requires.step c.requires.by)
 
 span_fits : (span : Span) → IsSpan (neg_ℤ (pos 262144)) (pos 262144) span
     → FitsSigned w64 (to_z w64 (of_z w64 span.greatest) -ℤ to_z w64 (of_z w64 span.least))
@@ -69,8 +69,7 @@ returns c =
     let strip = c.requires.strip in
     let some = strip.some in
     let small = c.shifted-across.ensures.small in
-    let by : to_z w64 (of_z w64 c.cross.result) ≡ cross_of c.args.self.way c.args.step =
-    to_z-of_z w64 c.cross.result (record { sfits = c.cross.type_inv }) ∙ c.cross.ensures in
+    let by : to_z w64 (of_z w64 c.args.by) ≡ cross_of c.args.self.way c.args.step = to_z-of_z w64 c.args.by c.ranges.by ∙ c.requires.by in
     record {
       low = small.least.most;
       high = small.greatest.least;
