@@ -1,5 +1,5 @@
 -- Runs of edges with one heading, and what is noted down of them.
-use Rattle.std.proofs.Common.{◌≡◌, ◌≢◌, ℕ, zero, suc, pred, ◌+◌, ◌-◌, ◌<◌, ◌≤◌, true, List, [], ◌∷◌, ◌++◌, length, map, sum_by, All, refl, ap, sym, subst, ◌∙◌, arith, append_assoc}
+use Rattle.std.proofs.Common.{◌≡◌, ◌≢◌, ℕ, zero, suc, pred, ◌+◌, ◌-◌, ◌<◌, ◌≤◌, Bool, true, false, not, List, [], ◌∷◌, ◌++◌, length, map, sum_by, All, refl, ap, sym, subst, ◌∙◌, arith, append_assoc}
 use Rattle.std.proofs.lemmas.Bool.{false≢true}
 use Rattle.std.proofs.lemmas.List.{length-append, length-map, map-append}
 use Rattle.std.proofs.lemmas.List.Sums.{sum_by-cons, sum_by-append}
@@ -14,11 +14,11 @@ use Rattle.turn_policies.specs.declared.heading.Dir.{Dir}
 use Rattle.turn_policies.specs.declared.heading.Dir.TheVariants.{North, East, South, West}
 use Rattle.turn_policies.specs.declared.edge.Edge.{Edge}
 use Rattle.turn_policies.specs.Boundary.{IsBoundary, left_pixel}
-use Rattle.turn_policies.specs.Heading.{end_x, end_y}
-use Rattle.turn_policies.specs.Turn.{next}
+use Rattle.turn_policies.specs.Heading.{left_of, right_of, end_x, end_y}
+use Rattle.turn_policies.specs.Turn.{turn_of, turn, next}
 use Rattle.turn_policies.proofs.Turning.{next_boundary}
 use Rattle.path_decompose.specs.declared.trail.Trail.{Trail}
-use Rattle.path_decompose.specs.Inner.Trail.{column_up, column_down, AreNoted, IsStraightRun}
+use Rattle.path_decompose.specs.Inner.Trail.{is_upright, column_up, column_down, AreNoted, IsStraightRun}
 use Rattle.path_decompose.specs.Walk.{first_edge, start_of, IsTrail}
 use Rattle.path_decompose.proofs.OnPage.{edge_on}
 use Rattle.path_decompose.proofs.Orbit.{nth_after-keeps}
@@ -114,6 +114,53 @@ sums_more old new here narrow noted = (
   omega (arith, narrow, noted.up, sum_by-cons column_up here [], column_up-le here.x here.heading),
   omega (arith, narrow, noted.down, sum_by-cons column_down here [], column_down-le here.x here.heading),
 )
+
+-- ---- turns
+
+left_upright : (d : Dir) → is_upright (left_of d) ≡ not (is_upright d)
+left_upright North = refl
+left_upright East = refl
+left_upright South = refl
+left_upright West = refl
+
+right_upright : (d : Dir) → is_upright (right_of d) ≡ not (is_upright d)
+right_upright North = refl
+right_upright East = refl
+right_upright South = refl
+right_upright West = refl
+
+turn_upright : (left right choice : Bool) (d : Dir) → turn_of left right choice d ≢ d → is_upright (turn_of left right choice d) ≡ not (is_upright d)
+turn_upright true false choice d other = absurd (other refl)
+turn_upright true true choice d other = right_upright d
+turn_upright false false choice d other = left_upright d
+turn_upright false true true d other = right_upright d
+turn_upright false true false d other = left_upright d
+
+-- an edge with another heading than the one before leads along a row after one up or down, and the other way round
+pub next_upright : (b : Image) (policy : Policy) (sign : Sign) (here after : Edge) → after ≡ next b policy sign here → after.heading ≢ here.heading → is_upright after.heading ≡ not (is_upright here.heading)
+next_upright b policy sign here after is other =
+    let heading : after.heading ≡ turn b policy sign (end_x here.x here.heading) (end_y here.y here.heading) here.heading = ap (λ e. e.heading) is in
+    ap is_upright heading ∙ turn_upright _ _ _ here.heading (λ e. other (heading ∙ e))
+
+-- and so it has another heading
+pub upright_apart : (c d : Dir) → is_upright c ≡ not (is_upright d) → c ≢ d
+upright_apart c d turned same = not_self (is_upright d) (sym (ap is_upright same) ∙ turned)
+  where
+    not_self : (t : Bool) → t ≡ not t → ⊥
+    not_self true e = absurd (false≢true (sym e))
+    not_self false e = absurd (false≢true e)
+
+pub upright_south : (d : Dir) → is_upright d ≡ true → d ≢ North → d ≡ South
+upright_south North up other = absurd (other refl)
+upright_south East up other = absurd (false≢true up)
+upright_south South up other = refl
+upright_south West up other = absurd (false≢true up)
+
+pub level_west : (d : Dir) → is_upright d ≡ false → d ≢ East → d ≡ West
+level_west North level other = absurd (false≢true (sym level))
+level_west East level other = absurd (other refl)
+level_west South level other = absurd (false≢true (sym level))
+level_west West level other = refl
 
 -- ---- the walk
 
@@ -233,6 +280,15 @@ noted_on b policy sign x y width height from after old new first fits w noted ru
     let boundary : IsBoundary b to.last = noted_boundary b policy sign x y to.passed to.up_before to.down_before to.last first to.noted in
     noted_more (next b policy sign) (first_edge x y) to.passed new.points.items to.up_before to.down_before new.up new.down to.last after
     to.noted (narrow b width height fits w to.last boundary) to.points_is to.up_is to.down_is to.leads (λ e. other (to.leads ∙ e))
+
+-- a run up or down leads on to an edge along a row, which the first edge isn't
+pub noted_upright : (b : Image) (policy : Policy) (sign : Sign) (x y width height : ℕ) (from after : Edge) (old new : Trail)
+    → IsFirstBlack b x y → Fits b width height → width ≤ LONGEST_SIDE → IsNoted (next b policy sign) (first_edge x y) old.points.items old.up old.down from
+    → IsStraightRun (next b policy sign) from after old new → is_upright from.heading ≡ true → is_upright after.heading ≡ false
+    → IsNoted (next b policy sign) (first_edge x y) new.points.items new.up new.down after
+noted_upright b policy sign x y width height from after old new first fits w noted run up level =
+    noted_on b policy sign x y width height from after old new first fits w noted run
+    (upright_apart after.heading from.heading (level ∙ sym (ap not up))) (λ e. false≢true (sym level ∙ ap (λ k. is_upright k.heading) e))
 
 -- and one that leads to the first edge
 pub noted_round : (b : Image) (policy : Policy) (sign : Sign) (x y width height : ℕ) (from after : Edge) (old new : Trail)

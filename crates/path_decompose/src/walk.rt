@@ -1,10 +1,10 @@
 //! The walk along a boundary, once round.
-ghost use Rattle.std.specs.Prelude.{◌≡◌, ◌≢◌, ℕ, ◌+◌, ◌∷◌, [], IfOk, OnOk, MatchBool, ◌^◌, ◌<◌};
+ghost use Rattle.std.specs.Prelude.{◌≡◌, ◌≢◌, true, false, not, ℕ, ◌+◌, ◌∷◌, [], IfOk, OnOk, MatchBool, ◌^◌, ◌<◌};
 ghost use Rattle.bit_image.specs.FirstBlack.{IsFirstBlack};
 ghost use Rattle.bit_image.specs.Page.{image_of};
 ghost use Rattle.path_decompose.specs.Inside.{inside, black_count};
 ghost use Rattle.path_decompose.specs.Inner.BoundaryBits.{IsSpotAt};
-ghost use Rattle.path_decompose.specs.Inner.Trail.{edge_from, AreSumsBelow, AreNoted, IsStraightRun};
+ghost use Rattle.path_decompose.specs.Inner.Trail.{is_upright, edge_from, AreSumsBelow, AreNoted, IsStraightRun};
 ghost use Rattle.path_decompose.specs.Walk.{first_edge, IsBoundaryWalk};
 ghost use Rattle.turn_policies.specs.Boundary.{IsBoundary};
 ghost use Rattle.turn_policies.specs.Turn.{next};
@@ -57,20 +57,25 @@ pub(crate) fn walk_round(
         heading: Dir::South,
     };
     let mut spot = edges.spot(x, y + 1);
+    // Runs up or down and runs along a row take turns, and the first edge goes down.
     'runs: loop {
-        let after = turned_after(&edges, here, spot, policy, sign, trail)?;
-        here = after.0;
-        spot = after.1;
+        let level = turned_upright(&edges, here, spot, policy, sign, trail)?;
+        let upright = turned_level(&edges, level.0, level.1, policy, sign, trail)?;
+        here = upright.0;
+        spot = upright.1;
         if is_first(here, x, y) {
             return Ok(());
         }
     }
 }
 
-/// The edge to which a walk turns after a run of edges with one heading, which are noted down, and where the edges of
-/// the corner stand that it leaves.
+/// The edge along a row to which a walk turns after a run of edges up or down, which are noted down, and where the edges
+/// of the corner stand that it leaves.
+//
+// Each heading has a loop of its own, in which neither it nor what it asks is looked up again, and in which the
+// processor foresees the turns better.
 #[inline(always)]
-fn turned_after(
+fn turned_upright(
     edges: &Layout,
     edge: Edge,
     spot: Spot,
@@ -80,20 +85,45 @@ fn turned_after(
 ) -> Result<(Edge, Spot), NoMemory>
     requires boundary { IsBoundary (image_of edges.now.page.now) edge }
     requires spot { IsSpotAt edges.now.rows edges.now.starts.now edge.x edge.y spot }
+    requires upright { is_upright edge.heading ≡ true }
     requires sums { AreSumsBelow (2 ^ 62) trail.old }
     ensures run { IfOk result (λ after.
         IsStraightRun (next (image_of edges.now.page.now) policy sign) edge after.0 trail.old trail.new) }
-    ensures turns { IfOk result (λ after. after.0.heading ≢ edge.heading) }
+    ensures turns { IfOk result (λ after. is_upright after.0.heading ≡ false) }
     ensures spot { IfOk result (λ after. IsSpotAt edges.now.rows edges.now.starts.now after.0.x after.0.y after.1) }
 {
     let Edge { x, y, heading } = edge;
-    // Each heading has a loop of its own, in which neither it nor what it asks is looked up again, and in which the
-    // processor foresees the turns better.
-    match heading {
-        Dir::North => turned_run(edges, x, y, spot, Dir::North, policy, sign, trail),
-        Dir::East => turned_run(edges, x, y, spot, Dir::East, policy, sign, trail),
-        Dir::South => turned_run(edges, x, y, spot, Dir::South, policy, sign, trail),
-        Dir::West => turned_run(edges, x, y, spot, Dir::West, policy, sign, trail),
+    if matches!(heading, Dir::North) {
+        turned_run(edges, x, y, spot, Dir::North, policy, sign, trail)
+    } else {
+        turned_run(edges, x, y, spot, Dir::South, policy, sign, trail)
+    }
+}
+
+/// And the edge up or down to which it turns after a run of edges along a row.
+#[inline(always)]
+fn turned_level(
+    edges: &Layout,
+    edge: Edge,
+    spot: Spot,
+    policy: Policy,
+    sign: Sign,
+    trail: &mut Trail,
+) -> Result<(Edge, Spot), NoMemory>
+    requires boundary { IsBoundary (image_of edges.now.page.now) edge }
+    requires spot { IsSpotAt edges.now.rows edges.now.starts.now edge.x edge.y spot }
+    requires level { is_upright edge.heading ≡ false }
+    requires sums { AreSumsBelow (2 ^ 62) trail.old }
+    ensures run { IfOk result (λ after.
+        IsStraightRun (next (image_of edges.now.page.now) policy sign) edge after.0 trail.old trail.new) }
+    ensures turns { IfOk result (λ after. is_upright after.0.heading ≡ true) }
+    ensures spot { IfOk result (λ after. IsSpotAt edges.now.rows edges.now.starts.now after.0.x after.0.y after.1) }
+{
+    let Edge { x, y, heading } = edge;
+    if matches!(heading, Dir::East) {
+        turned_run(edges, x, y, spot, Dir::East, policy, sign, trail)
+    } else {
+        turned_run(edges, x, y, spot, Dir::West, policy, sign, trail)
     }
 }
 
@@ -114,7 +144,7 @@ fn turned_run(
     requires sums { AreSumsBelow (2 ^ 62) trail.old }
     ensures run { IfOk result (λ after. IsStraightRun (next (image_of edges.now.page.now) policy sign)
         (edge_from x y heading) after.0 trail.old trail.new) }
-    ensures turns { IfOk result (λ after. after.0.heading ≢ heading) }
+    ensures turns { IfOk result (λ after. is_upright after.0.heading ≡ not (is_upright heading)) }
     ensures spot { IfOk result (λ after. IsSpotAt edges.now.rows edges.now.starts.now after.0.x after.0.y after.1) }
 {
     // The width is asked, so that the proof sees that a page is small.

@@ -1,5 +1,5 @@
 -- What is noted down of a walk: the corners where its edges begin, and the columns of the upright lines that it goes up and down.
-use Rattle.std.specs.Prelude.{◌≡◌, ℕ, ◌+◌, ◌<◌, List, ◌++◌, map, sum_by, All}
+use Rattle.std.specs.Prelude.{◌≡◌, Bool, true, false, ℕ, ◌+◌, ◌<◌, List, ◌++◌, map, sum_by, All}
 use Rattle.turn_policies.specs.declared.heading.Dir.{Dir}
 use Rattle.turn_policies.specs.declared.heading.Dir.TheVariants.{North, East, South, West}
 use Rattle.turn_policies.specs.declared.edge.Edge.{Edge}
@@ -27,6 +27,13 @@ column_up e = column_if_up e.x e.heading
 -- the column of an edge that goes down
 abbrev pub column_down : Edge → ℕ
 column_down e = column_if_down e.x e.heading
+
+-- a heading is up or down, and not along a row
+abbrev pub is_upright : Dir → Bool
+is_upright North = true
+is_upright East = false
+is_upright South = true
+is_upright West = false
 
 -- the edge that leaves corner (x, y) with a heading
 abbrev pub edge_from : ℕ → ℕ → Dir → Edge
