@@ -64,7 +64,7 @@ impl<'a> Growing<'a> {
             from: segment.from,
             to: segment.to,
             first,
-            count: u64::from(sums.count),
+            count: u64::from(segment.to - segment.from + 1),
             right: between(first.x, last.x),
             above: between(first.y, last.y),
             xx: sums.xx,

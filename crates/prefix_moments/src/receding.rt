@@ -95,23 +95,27 @@ impl<'a> Receding<'a> {
     {
         let right = between(self.first.x, first.x);
         let above = between(self.first.y, first.y);
+        // The sums' own number of points isn't asked, so a loop needn't keep it.
+        let count = self.to - self.from + 1;
         Receding {
             moments: self.moments,
             from: self.from - 1,
             to: self.to,
             first,
             last: self.last,
-            sums: with_first(self.sums, right, above),
+            sums: with_first(self.sums, count, right, above),
         }
     }
 }
 
-/// The sums with one point more, which becomes the first: so far it lies to the right of the one that was, and above it.
+/// The sums of `count` points with one more, which becomes the first: it lies so far to the right of the one that was, and
+/// above it.
 //
-// Each offset grows by the way from it to that one, and its own is none.
+// Its own offset is none, and each other one loses what it has.
 #[inline(always)]
-fn with_first(sums: Sums, right: i64, above: i64) -> Sums
-    requires few { sums.count ≤ MOST_STEPS }
+fn with_first(sums: Sums, count: u32, right: i64, above: i64) -> Sums
+    requires count { count ≡ sums.count }
+    requires few { count ≤ MOST_STEPS }
     requires small { IsRawOf (MOST_STEPS + 1) (without_count sums) }
     requires right { unsigned_abs right ≤ LONGEST_SIDE }
     requires above { unsigned_abs above ≤ LONGEST_SIDE }
@@ -124,9 +128,9 @@ fn with_first(sums: Sums, right: i64, above: i64) -> Sums
         xy: sums.xy,
         yy: sums.yy,
     };
-    let moved = offsets(raw, sums.count, right, above);
+    let moved = offsets(raw, count, right, above);
     Sums {
-        count: moved.count + 1,
+        count: count + 1,
         x: moved.x,
         y: moved.y,
         xx: moved.xx,

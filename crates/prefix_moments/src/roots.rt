@@ -84,7 +84,7 @@ impl Roots {
 
 impl MeanRoot {
     /// The root of 65536 times the mean of `count` numbers.
-    #[inline(never)]
+    #[inline(always)]
     fn of(total: u64, count: u32) -> MeanRoot
         requires total { total < 2 ^ 48 }
         requires some { 0 < count }
@@ -92,9 +92,22 @@ impl MeanRoot {
         ensures total { result.total ≡ total }
         ensures count { result.count ≡ count }
     {
-        let root = isqrt(u128::from(65536 * total / u64::from(count))) as u32;
+        let root = taken(total, count);
         MeanRoot { total, count, root }
     }
+}
+
+/// The same root alone.
+//
+// It isn't inlined, and gives the one number, so nothing stands in memory for it where the root is kept already.
+#[cold]
+#[inline(never)]
+fn taken(total: u64, count: u32) -> u32
+    requires total { total < 2 ^ 48 }
+    requires some { 0 < count }
+    ensures { IsRoot (65536 * total / count) result }
+{
+    isqrt(u128::from(65536 * total / u64::from(count))) as u32
 }
 
 /// The root of the mean of a zero.

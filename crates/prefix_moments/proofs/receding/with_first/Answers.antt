@@ -13,7 +13,7 @@ returns c =
     let s = c.args.sums in
     let m = c.offsets-moved.result in
     let bits : (z : ℤ) → FitsSigned w64 z → to_z w64 (of_z w64 z) ≡ z = to_z-of_z w64 in
-    let is : m ≡ offsets_of (without_count s) s.count c.args.right c.args.above = c.offsets-moved.ensures
+    let moved : m ≡ offsets_of (without_count s) c.args.count c.args.right c.args.above = c.offsets-moved.ensures
     ∙ rw (
       bits s.x (search rules),
       bits s.y (search rules),
@@ -23,7 +23,8 @@ returns c =
       side_back c.args.right c.requires.right,
       side_back c.args.above c.requires.above,
     ) refl in
-    sums_same _ _ (ap (λ (s : Sums). s.count + 1) is)
+    let is = moved ∙ ap (λ n. offsets_of (without_count s) n c.args.right c.args.above) c.requires.count in
+    sums_same _ _ (ap (λ n. n + 1) c.requires.count)
     (bits m.x (search rules) ∙ ap (λ (s : Sums). s.x) is)
     (bits m.y (search rules) ∙ ap (λ (s : Sums). s.y) is)
     (bits m.xx (search rules) ∙ ap (λ (s : Sums). s.xx) is)

@@ -24,7 +24,7 @@ invariant_of-result c =
       on_page = segment.on_page;
       first_on_page = segment.first_on_page;
       first_is = segment.first_is;
-      count_is = c.from.ensures ∙ ap (λ (s : Sums). s.count) segment.sums_are;
+      count_is = omega (arith, c.from.ensures, segment.onwards);
       right_is = back c.between.result (omega (arith, c.between.ensures.most))
           ∙ right_is points i j segment.first segment.last c.between.result segment.first_on_page segment.last_on_page segment.first_is segment.last_is c.between.ensures.value;
       above_is = back c.between-2.result (omega (arith, c.between-2.ensures.most))

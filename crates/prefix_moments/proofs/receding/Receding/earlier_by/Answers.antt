@@ -1,4 +1,4 @@
-use Rattle.std.proofs.Common.{ℕ, ◌+◌, ◌-◌, sym, subst, ◌∙◌, arith}
+use Rattle.std.proofs.Common.{ℕ, ◌+◌, ◌-◌, sym, ap, subst, ◌∙◌, arith}
 use Rattle.pt_core.specs.declared.limits.TheConstants.{MOST_STEPS}
 use Rattle.pt_core.proofs.Sizes.{back}
 use Rattle.prefix_moments.specs.declared.sums.Sums.{Sums}
@@ -6,6 +6,9 @@ use Rattle.prefix_moments.specs.Inner.Table.{IsRawOf, without_count}
 use Rattle.prefix_moments.proofs.Earlier.{earlier_is, offsets_most}
 use Rattle.prefix_moments.proofs.Totals.{right_is, above_is}
 use Rattle.prefix_moments.proofs.receding.Receding.earlier_by.Goals as goal
+
+pub with_first-requires-clause-count : goal.with_first-requires-clause-count
+with_first-requires-clause-count c = sym (ap (λ (s : Sums). s.count) c.args.self.sums_are)
 
 pub with_first-requires-clause-small : goal.with_first-requires-clause-small
 with_first-requires-clause-small c =
