@@ -9,6 +9,7 @@ ghost use Rattle.prefix_moments.specs.Inner.Table.{raw_of, prefix_of, IsRawOf, I
 use crate::prefix::Prefix;
 use crate::raw::{RawSums, moved, moved_products, spread};
 use crate::room::MomentsRoom;
+use crate::start::mean_root;
 use crate::sums::Sums;
 use pt_core::{LONGEST_SIDE, MOST_STEPS, NoMemory, Point, isqrt};
 use std::alloc::Global;
@@ -346,7 +347,7 @@ fn root_of_mean(total: u128, count: u32) -> u64
     ensures { IsRoot (65536 * total / count) result }
 {
     if total < 1 << 48 {
-        isqrt(u128::from(total as u64 * 65536 / u64::from(count)))
+        mean_root(total as u64, u64::from(count))
     } else {
         isqrt(65536 * total / u128::from(count))
     }

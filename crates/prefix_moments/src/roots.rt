@@ -4,7 +4,8 @@ ghost use Rattle.pt_core.specs.Root.{IsRoot};
 ghost use Rattle.pt_core.specs.declared.limits.TheConstants.{MOST_STEPS};
 ghost use Rattle.prefix_moments.specs.Inner.Kept.{IsMeanRoot};
 
-use pt_core::{NoMemory, isqrt};
+use crate::start::mean_root;
+use pt_core::NoMemory;
 use std::alloc::Global;
 use std::marker::Model;
 
@@ -92,22 +93,9 @@ impl MeanRoot {
         ensures total { result.total ≡ total }
         ensures count { result.count ≡ count }
     {
-        let root = taken(total, count);
+        let root = mean_root(total, u64::from(count)) as u32;
         MeanRoot { total, count, root }
     }
-}
-
-/// The same root alone.
-//
-// It isn't inlined, and gives the one number, so nothing stands in memory for it where the root is kept already.
-#[cold]
-#[inline(never)]
-fn taken(total: u64, count: u32) -> u32
-    requires total { total < 2 ^ 48 }
-    requires some { 0 < count }
-    ensures { IsRoot (65536 * total / count) result }
-{
-    isqrt(u128::from(65536 * total / u64::from(count))) as u32
 }
 
 /// The root of the mean of a zero.

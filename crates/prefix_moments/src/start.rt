@@ -10,6 +10,10 @@ use crate::moments::{Moments, between};
 use crate::prefix::Prefix;
 use crate::raw::{crossed, wrapped_spread};
 use pt_core::{MOST_STEPS, Point, isqrt};
+use std::num::{nearest_i64_to_f64, saturating_f64_to_i64};
+
+/// A greater root isn't guessed, so that squares times counts fit.
+const MOST_GUESSED: u64 = (1 << 23) - 1;
 
 /// The segments from one point of a path, for whoever asks for many of them: what these have in common is looked up
 /// once.
@@ -51,7 +55,7 @@ impl<'a> Start<'a> {
         requires small { unsigned_abs (spread_of self.now.moments.now self.now.from to) < 2 ^ 48 }
         ensures { IsPenalty self.now.moments.now self.now.from to result }
     {
-        isqrt(u128::from(65536 * self.total(to) / u64::from(to - self.from + 1)))
+        mean_root(self.total(to), u64::from(to - self.from + 1))
     }
 
     /// The same penalty, where it is below a limit; no root is taken where it isn't.
@@ -114,6 +118,9 @@ pub(crate) fn root_below(total: u64, count: u64, limit: u64) -> Option<u64>
 
 /// The root of 65536 times the mean of `count` numbers.
 //
+// It is guessed by floating point, which divides and takes roots in less time. Where squares show that the guess is the root,
+// it is; else the root is taken in whole numbers. Nothing is proved of the guess.
+//
 // It isn't inlined: where few roots are taken, a loop keeps its registers. And it is said to be called seldom, so what is
 // kept in memory for a call is written down beside it and not in the loop.
 #[cold]
@@ -123,7 +130,31 @@ pub(crate) fn mean_root(total: u64, count: u64) -> u64
     requires some { 0 < count }
     ensures { IsRoot (65536 * total / count) result }
 {
+    let guess = near_mean_root(total, count);
+    if is_mean_root(total, count, guess) {
+        return guess;
+    }
     isqrt(u128::from(65536 * total / count))
+}
+
+/// A number that mostly is that root.
+fn near_mean_root(total: u64, count: u64) -> u64 {
+    let mean = nearest_i64_to_f64(total.cast_signed()) / nearest_i64_to_f64(count.cast_signed());
+    saturating_f64_to_i64((65536.0 * mean).sqrt()).cast_unsigned()
+}
+
+/// Whether a number is found to be that root: by squares, without a division.
+#[tactic(auto, using(pt_core::proofs::Roots::quotient_root_is))]
+fn is_mean_root(total: u64, count: u64, root: u64) -> bool
+    requires total { total < 2 ^ 48 }
+    requires some { 0 < count }
+    ensures { IsTrue result → IsRoot (65536 * total / count) root }
+{
+    if u64::from(MOST_STEPS) + 1 < count || MOST_GUESSED < root {
+        return false;
+    }
+    let number = 65536 * total;
+    root * root * count <= number && number < (root + 1) * (root + 1) * count
 }
 
 /// Whether that root reaches a limit: by squares, without a division.
