@@ -10,7 +10,7 @@ ghost use Rattle.straight_paths.specs.Inner.Tails.{AreStraight, both_back_of, la
 
 use crate::first::clear_steps;
 use crate::laps::point_of_lap;
-use crate::strip::{Strides, Strip};
+use crate::strip::{Lane, Strip};
 use crate::sweep::{Seen, Sweep};
 use crate::table::Table;
 use crate::tail::Tail;
@@ -275,9 +275,9 @@ fn held_by_strip(track: &Track, last: usize, lap: usize, start: Hold, steps: &mu
     if !strip.back.is_nowhere() || tail.ahead.behind(strip.quarter) < tail.end {
         return held_by_steps(track, last, lap, start, steps);
     }
-    let (hold, goes_back) = onward_back(track, last, lap, start.index, tail, strip, steps);
+    let (hold, may_go_on) = onward_back(track, last, lap, start.index, tail, strip, steps);
     // A step onward that isn't held isn't asked for twice.
-    if !goes_back {
+    if !may_go_on {
         return hold;
     }
     held_by_steps(track, last, lap, hold, steps)
@@ -303,10 +303,13 @@ fn held_by_steps(track: &Track, last: usize, lap: usize, start: Hold, steps: &mu
 }
 
 /// The same as long as no step goes back, for a strip with no point behind, where one of the directions that go back isn't
-/// taken before the tail's end; and whether it ended since a step goes back.
+/// taken before the tail's end; and whether the strip may hold points from there on too.
 //
 // Along such steps the two directions that go back are taken as late as before. So nothing ends sooner but by the limit, and
-// what is behind isn't asked.
+// what is behind isn't asked. From where the limit binds, each step is taken by itself.
+//
+// A step goes onward exactly where its start is less far into the quarter than its end, and how far two points are apart across
+// the way doesn't depend on from where one looks. So each point is asked for two numbers, and no step is told by a jump.
 //
 // Each point is looked up once: the later one of a step is the earlier one of the step before. All of them are in one lap,
 // so that the lookups ask for none.
@@ -330,40 +333,43 @@ fn onward_back(
     let limit = track.limit();
     let points = track.points();
     let begin = track.lap_before(from);
-    let low = later_of(lap, begin);
-    let strides = Strides::new(start.quarter, start.way);
+    let low = later_of(later_of(lap, begin), tail.end.saturating_sub(limit));
+    let side = start.way.to_left();
+    let diagonal = start.quarter.diagonal();
     let mut index = from;
-    let mut ahead = tail.ahead;
-    let mut strip = start;
     let mut there = track.point(from);
-    let mut goes_back = false;
+    let mut far = diagonal.rise(there);
+    let mut lane = Lane::of(start.across, side.rise(there));
+    let mut onward = tail.ahead.onward(start.quarter);
+    let mut may_go_on = true;
     while index > low {
         let here = point_of_lap(points, begin, index - 1);
-        let step = Vector::between(here, there);
-        if !strip.quarter.is_onward(step) {
-            goes_back = true;
+        let next = diagonal.rise(here);
+        if far <= next {
             break;
         }
-        let Some(earlier) = strip.onward(step, strides) else {
+        let Some(wider) = lane.before(side.rise(here), start.breadth) else {
+            may_go_on = false;
             break;
         };
-        strip = earlier;
-        there = here;
         index -= 1;
-        ahead = ahead.sooner(step, index);
-        steps[index - lap] = min(tail.end - index, limit) as u32;
+        far = next;
+        lane = wider;
+        onward = onward.sooner(Vector::between(here, there), index);
+        there = here;
+        steps[index - lap] = (tail.end - index) as u32;
     }
     let hold = Hold {
         index,
         seen: Seen {
             tail: Tail {
-                end: min(tail.end, index + limit),
-                ahead,
+                end: tail.end,
+                ahead: tail.ahead.with_onward(start.quarter, onward),
             },
-            strip: Some(strip),
+            strip: Some(start.with_across(lane.seen())),
         },
     };
-    (hold, goes_back)
+    (hold, may_go_on)
 }
 
 /// The later of two indices.

@@ -1,5 +1,5 @@
 -- Cones of half-lines: which they hold, and those that come near the points of a path.
-use Rattle.std.specs.Prelude.{ℕ, ◌<◌, ◌≤◌, ◌≢◌, zero, suc, ℤ, pos, negsuc, neg_ℤ, ◌+ℤ◌, ◌≤ℤ◌, ◌<ℤ◌, unsigned_abs}
+use Rattle.std.specs.Prelude.{ℕ, ◌<◌, ◌≤◌, ◌≢◌, zero, suc, ℤ, pos, negsuc, neg_ℤ, ◌+ℤ◌, ◌*ℤ◌, ◌≤ℤ◌, ◌<ℤ◌, unsigned_abs}
 use Rattle.pt_core.specs.declared.point.Point.{Point}
 use Rattle.straight_paths.specs.Straight.{vector_of, IsNear}
 use Rattle.straight_paths.specs.declared.vector.Vector.{Vector}
@@ -10,6 +10,14 @@ use Rattle.straight_paths.specs.Cones.{cross_of}
 -- from a point to itself
 abbrev pub nowhere : Vector
 nowhere = record { x = pos 0; y = pos 0 }
+
+-- the vector turned to the left by a right angle
+abbrev pub left_of : Vector → Vector
+left_of way = record { x = neg_ℤ way.y; y = way.x }
+
+-- how far along a vector a point is, times the vector's length (their dot product)
+abbrev pub rise_of : Vector → Point → ℤ
+rise_of way point = way.x *ℤ point.x +ℤ way.y *ℤ point.y
 
 -- the way lies from `low` to `high`, borders included, counted to the left
 pub record IsBetween (low high way : Vector) : Type 0 where

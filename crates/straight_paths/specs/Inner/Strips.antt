@@ -13,6 +13,7 @@ use Rattle.straight_paths.specs.Inner.Wedges.{IsQuarter, far_of}
 use Rattle.straight_paths.specs.declared.vector.Vector.{Vector}
 use Rattle.straight_paths.specs.declared.quarter.Quarter.{Quarter}
 use Rattle.straight_paths.specs.declared.strip.Extent.{Extent}
+use Rattle.straight_paths.specs.declared.strip.Lane.{Lane}
 use Rattle.straight_paths.specs.declared.strip.Span.{Span}
 use Rattle.straight_paths.specs.declared.strip.Strides.{Strides}
 use Rattle.straight_paths.specs.declared.strip.Strip.{Strip}
@@ -93,6 +94,32 @@ pub record AreStrides (quarter : Quarter) (way : Vector) (strides : Strides) : T
   pub row : strides.row ≡ cross_of way (record { x = quarter.right; y = pos 0 })
   pub column : strides.column ≡ cross_of way (record { x = pos 0; y = quarter.up })
 
+-- the span takes in what the other one does, and a further number
+pub record TakesIn (old : Span) (number : ℤ) (new : Span) : Type 0 where
+  pub least : new.least ≤ℤ old.least
+  pub greatest : old.greatest ≤ℤ new.greatest
+  pub further : IsFromTo new.least new.greatest number
+
+-- how far a strip's borders are from the point from which it is seen
+abbrev pub seen_of : Lane → Span
+seen_of lane = record { least = lane.across.least -ℤ lane.here; greatest = lane.across.greatest -ℤ lane.here }
+
+-- the lane is seen from the point of this number, takes in that point and the other lane, and isn't broader than that
+pub record IsWiderLane (lane : Lane) (here breadth : ℤ) (wider : Lane) : Type 0 where
+  pub seen_from : wider.here ≡ here
+  pub takes_in : TakesIn lane.across here wider.across
+  pub narrow : (wider.across.greatest -ℤ wider.across.least) ≤ℤ breadth
+
+-- the same strip with other borders
+abbrev pub with_across : Strip → Span → Strip
+with_across strip across = record {
+  quarter = strip.quarter;
+  way = strip.way;
+  breadth = strip.breadth;
+  across = across;
+  back = strip.back;
+}
+
 -- 0 alone
 abbrev pub no_span : Span
 no_span = record { least = pos 0; greatest = pos 0 }
@@ -101,12 +128,6 @@ no_span = record { least = pos 0; greatest = pos 0 }
 pub record IsSpan (low high : ℤ) (span : Span) : Type 0 where
   pub least : IsFromTo low (pos 0) span.least
   pub greatest : IsFromTo (pos 0) high span.greatest
-
--- the span takes in what the other one does, and a further number
-pub record TakesIn (old : Span) (number : ℤ) (new : Span) : Type 0 where
-  pub least : new.least ≤ℤ old.least
-  pub greatest : old.greatest ≤ℤ new.greatest
-  pub further : IsFromTo new.least new.greatest number
 
 -- numbers that a path of some ten thousand pixels may have
 pub record IsSmallExtent (extent : Extent) : Type 0 where

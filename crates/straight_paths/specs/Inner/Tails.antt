@@ -6,6 +6,7 @@ use Rattle.straight_paths.specs.Inner.Cones.{IsClear}
 use Rattle.straight_paths.specs.declared.vector.Vector.{Vector}
 use Rattle.straight_paths.specs.declared.quarter.Quarter.{Quarter}
 use Rattle.straight_paths.specs.declared.tail.Ahead.{Ahead}
+use Rattle.straight_paths.specs.declared.tail.Onward.{Onward}
 use Rattle.straight_paths.specs.declared.tail.Tail.{Tail}
 use Rattle.pt_core.specs.declared.limits.TheConstants.{MOST_STEPS}
 
@@ -109,6 +110,26 @@ back_in_row (negsuc n) ahead = ahead.east
 abbrev pub back_in_column : ℤ → Ahead → ℕ
 back_in_column (pos n) ahead = ahead.south
 back_in_column (negsuc n) ahead = ahead.north
+
+-- of two indices the second one where the sign is 1, else the first one
+abbrev pub by_direction : ℤ → ℕ → ℕ → ℕ
+by_direction (pos n) below above = above
+by_direction (negsuc n) below above = below
+
+-- the same places, but for the two directions that go onward in a quarter
+abbrev pub with_onward : Quarter → Ahead → Onward → Ahead
+with_onward quarter ahead onward = record {
+  east = by_direction quarter.right ahead.east onward.row;
+  north = by_direction quarter.up ahead.north onward.column;
+  west = by_direction quarter.right onward.row ahead.west;
+  south = by_direction quarter.up onward.column ahead.south;
+  last = ahead.last;
+}
+
+-- where the steps that go onward are taken next, if this one of them is taken at an earlier index
+pub record IsSoonerOnward (onward : Onward) (step : Vector) (here : ℕ) (sooner : Onward) : Type 0 where
+  pub row : IsIndexOf step.x (pos 0) onward.row here sooner.row
+  pub column : IsIndexOf step.x (pos 0) here onward.column sooner.column
 
 -- where the later of the two directions that go back in a quarter is taken first
 abbrev pub both_back_of : Quarter → Ahead → ℕ

@@ -29,6 +29,10 @@ pub record IsInQuarter (quarter : Quarter) (way : Vector) : Type 0 where
   pub right : pos 0 <ℤ (quarter.right *ℤ way.x)
   pub up : pos 0 <ℤ (quarter.up *ℤ way.y)
 
+-- the vector that goes into the quarter by 1 in each coordinate
+abbrev pub diagonal_of : Quarter → Vector
+diagonal_of quarter = record { x = quarter.right; y = quarter.up }
+
 -- the way goes back in neither coordinate of the quarter
 pub record GoesOnward (quarter : Quarter) (way : Vector) : Type 0 where
   pub right : pos 0 ≤ℤ (quarter.right *ℤ way.x)

@@ -1,105 +1,107 @@
-use Rattle.std.proofs.Common.{◌≡◌, ◌+◌, ◌-◌, ◌≤◌, ℕ, min, List, refl, sym, ap, ◌∙◌, subst, arith}
-use Rattle.pt_core.specs.ClosedWalk.{IsClosedWalk, point_at}
+use Rattle.std.proofs.Common.{◌≡◌, ◌⊎◌, ◌+◌, ◌-◌, ◌^◌, ◌≤◌, ℕ, ℤ, ◌<ℤ◌, unsigned_abs, w64, to_z, of_z, false, List, length, sym, ap, ◌∙◌, subst, arith}
+use Rattle.std.proofs.lemmas.Int.{ints, to_z-of_z}
+use Rattle.std.specs.Int.Signed.{le_z}
+use Rattle.pt_core.specs.ClosedWalk.{point_at}
 use Rattle.pt_core.specs.declared.point.Point.{Point}
-use Rattle.straight_paths.specs.Inner.Cones.{IsShort}
-use Rattle.straight_paths.specs.Inner.Sweeps.{AreEndsFrom, IsEnd, IsSeen}
-use Rattle.straight_paths.specs.Inner.Tails.{both_back_of, limit_of}
-use Rattle.straight_paths.specs.declared.quarter.Quarter.{Quarter}
-use Rattle.straight_paths.specs.Straight.{vector_of}
+use Rattle.pt_core.proofs.Sizes.{back}
+use Rattle.straight_paths.specs.Inner.Cones.{left_of, rise_of}
+use Rattle.straight_paths.specs.Inner.Strips.{IsWiderLane, seen_of, with_across}
+use Rattle.straight_paths.specs.Inner.Sweeps.{AreEndsFrom, IsSeen}
+use Rattle.straight_paths.specs.Inner.Tails.{IsSoonerOnward, limit_of, with_onward}
+use Rattle.straight_paths.specs.Inner.Wedges.{diagonal_of}
+use Rattle.straight_paths.specs.declared.strip.Span.{Span}
+use Rattle.straight_paths.specs.declared.tail.Ahead.{Ahead}
 use Rattle.straight_paths.specs.declared.vector.Vector.{Vector}
-use Rattle.straight_paths.proofs.Coding.{goes_by_one, step_short}
-use Rattle.straight_paths.proofs.Cyclic.{step_between}
-use Rattle.straight_paths.proofs.Ends.{lesser_is}
-use Rattle.straight_paths.proofs.Runs.{behind_as_late, behind_of_four, seen_by, seen_by_step}
+use Rattle.straight_paths.proofs.Lanes.{seen_onward}
+use Rattle.straight_paths.proofs.Runs.{seen_by}
+use Rattle.straight_paths.proofs.Stepping.{across_small, breadth_fits}
 use Rattle.straight_paths.proofs.Windows.{end_of_seen, one_more}
 use Rattle.straight_paths.proofs.fill.onward_back.Goals as goal
 
--- the step between two points that were looked up
-is_step : (points list : List Point) (index next : ℕ) (here there : Point) (step : Vector) → next ≡ index + 1 → list ≡ points → here ≡ point_at list index
-    → there ≡ point_at points next → step ≡ vector_of here there → step ≡ vector_of (point_at points index) (point_at points (index + 1))
-is_step points list index next here there step e same h t is =
-    step_between points index next here there step e is (h ∙ ap (λ ps. point_at ps index) same) t
+-- a point's number, as it is passed
+passed : (v w : Vector) (p : Point) (r : ℤ) → v ≡ w → r ≡ rise_of v p → unsigned_abs r ≤ 2 ^ 48 → to_z w64 (of_z w64 r) ≡ rise_of w p
+passed v w p r same is most = back r (omega arith) ∙ is ∙ ap (λ (u : Vector). rise_of u p) same
 
-unit_between : (points list : List Point) (index next : ℕ) (here there : Point) (step : Vector) → IsClosedWalk points → next ≡ index + 1 → list ≡ points
-    → here ≡ point_at list index → there ≡ point_at points next → step ≡ vector_of here there → IsShort 1 step
-unit_between points list index next here there step closed e same h t is =
-    step_short points index step closed (is_step points list index next here there step e same h t is)
+-- what the test tells
+tested : (r far : ℤ) → unsigned_abs r ≤ 2 ^ 48 → le_z far (to_z w64 (of_z w64 r)) ≡ false → r <ℤ far
+tested r far most is = omega (arith, ints)
+
+still_most : (r : ℤ) → unsigned_abs r ≤ 2 ^ 48 → unsigned_abs (to_z w64 (of_z w64 r)) ≤ 2 ^ 48
+still_most r most = omega (arith, ints)
+
+pub of-lane-requires-clause-across : goal.of-lane-requires-clause-across
+of-lane-requires-clause-across c = across_small c.args.start c.requires.seen.strip.is_strip
 
 pub loop-index-init : goal.loop-index-init
 loop-index-init c =
     let points = c.args.track.now in
+    let tail = c.args.tail in
+    let start = c.args.start in
     let most = c.requires.seen.tail.at_most in
-    let e : c.args.tail.end ≡ min c.args.tail.end (c.args.from + limit_of points) = omega arith in
+    let seen = subst (λ (ahead : Ahead). IsSeen points c.args.last c.args.from (seen_by start tail.end ahead)) (sym c.onward-onward.ensures) c.requires.seen in
     record {
       index = omega arith;
+      within = omega arith;
       there = c.point-there.ensures;
-      strides = c.new-strides.ensures;
-      behind = c.requires.behind;
-      seen = subst (λ (n : ℕ). IsSeen points c.args.last c.args.from (seen_by c.args.start n c.args.tail.ahead)) e c.requires.seen;
+      far = passed _ _ _ c.rise-far.result c.diagonal-diagonal.ensures.value c.rise-far.ensures.value c.rise-far.ensures.most;
+      lane = c.of-lane.ensures.here ∙ passed _ _ _ c.rise.result c.to_left-side.ensures.value c.rise.ensures.value c.rise.ensures.most;
+      lane_most = subst (λ (z : ℤ). unsigned_abs z ≤ 2 ^ 48) (sym c.of-lane.ensures.here) (still_most c.rise.result c.rise.ensures.most);
+      seen = subst (λ (across : Span). IsSeen points c.args.last c.args.from (seen_by (with_across start across) tail.end (with_onward start.quarter tail.ahead c.onward-onward.result)))
+          (sym c.of-lane.ensures.across) seen;
       ends = c.requires.ends;
     }
+
+pub point_of_lap-here-requires-clause-begin : goal.point_of_lap-here-requires-clause-begin
+point_of_lap-here-requires-clause-begin c =
+    subst (λ (ps : List Point). (c.lap_before-begin.result ≡ 0) ⊎ (c.lap_before-begin.result ≡ length ps)) (sym c.points-points.ensures) c.lap_before-begin.ensures.begin
+
+pub before-requires-clause-lane : goal.before-requires-clause-lane
+before-requires-clause-lane c = across_small (with_across c.args.start (seen_of c.loop-index.lane)) c.loop-index.invariant.seen.strip.is_strip
 
 pub loop-index-preserved : goal.loop-index-preserved
 loop-index-preserved c =
     let points = c.args.track.now in
+    let start = c.args.start in
+    let tail = c.args.tail in
     let inv = c.loop-index.invariant in
     let some = c.loop-index-test.true in
-    let low = inv.index in
     let index = c.loop-index.index - 1 in
     let e : c.loop-index.index ≡ index + 1 = omega arith in
-    let here = subst (λ (ps : List Point). c.point_of_lap-here.result ≡ point_at ps index) c.points-points.ensures c.point_of_lap-here.ensures in
-    let step = is_step points c.points-points.result.now index c.loop-index.index c.point_of_lap-here.result c.loop-index.there c.between-step.result
-    e c.points-points.ensures c.point_of_lap-here.ensures inv.there c.between-step.ensures in
+    let here : c.point_of_lap-here.result ≡ point_at points index =
+    subst (λ (ps : List Point). c.point_of_lap-here.result ≡ point_at ps index) c.points-points.ensures c.point_of_lap-here.ensures in
+    let there = subst (λ (n : ℕ). c.loop-index.there ≡ point_at points n) e inv.there in
+    let rise : c.rise-next.result ≡ rise_of (diagonal_of start.quarter) c.point_of_lap-here.result =
+    c.rise-next.ensures.value ∙ ap (λ (u : Vector). rise_of u c.point_of_lap-here.result) c.diagonal-diagonal.ensures.value in
+    let most = c.rise-next.ensures.most in
+    let low = c.later_of-low.ensures.second in
+    let cut = c.saturating_sub.ensures in
+    let first = c.later_of-low.ensures.first in
+    let lap = c.later_of.ensures.first in
     let limit = c.limit-limit.ensures.value in
-    let told : c.min.result ≡ min (c.args.tail.end - index) c.limit-limit.result = lesser_is _ _ _ c.min.ensures in
-    let strip = c.loop-index.strip in
-    let ahead = c.loop-index.ahead in
-    let sooner = c.sooner-ahead.result in
-    let earlier = c.in-Some.earlier in
-    let before = c.in-Some.ensures.strip in
-    let quarter = inv.seen.strip.is_strip.quarter in
-    let old : ℕ = min c.args.tail.end (index + 1 + limit_of points) in
-    let end : ℕ = min c.args.tail.end (index + limit_of points) in
-    let later = subst (λ (n : ℕ). IsSeen points c.args.last n (seen_by strip (min c.args.tail.end (n + limit_of points)) ahead)) e inv.seen in
-    let late = behind_as_late strip.quarter ahead sooner c.between-step.result index quarter (c.if-not-is_onward.ensures.0 refl) c.sooner-ahead.ensures in
-    let four = behind_of_four strip.quarter sooner quarter in
-    let behind_here : c.args.tail.end ≤ both_back_of strip.quarter sooner = subst (λ (n : ℕ). c.args.tail.end ≤ n) (sym late) inv.behind in
-    let seen = seen_by_step points c.limit-limit.ensures.closed c.args.last index old strip ahead c.between-step.result step later
-    end earlier sooner before c.sooner-ahead.ensures (omega arith) (omega arith) in
-    let before_end = later.tail.at_least in
-    let e_told : end - index ≡ c.min.result = omega arith in
+    let far : rise_of (diagonal_of start.quarter) c.point_of_lap-here.result <ℤ rise_of (diagonal_of start.quarter) c.loop-index.there =
+    subst (λ (z : ℤ). z <ℤ rise_of (diagonal_of start.quarter) c.loop-index.there) rise (subst (λ (z : ℤ). c.rise-next.result <ℤ z) inv.far (tested c.rise-next.result _ most c.if-far-next.false)) in
+    let across = passed _ _ _ c.rise-in-loop-index.result c.to_left-side.ensures.value c.rise-in-loop-index.ensures.value c.rise-in-loop-index.ensures.most in
+    let told : IsWiderLane c.loop-index.lane (to_z w64 (of_z w64 c.rise-in-loop-index.result)) (to_z w64 (of_z w64 start.breadth)) c.in-Some.wider = c.in-Some.ensures in
+    let breadth = to_z-of_z w64 start.breadth (breadth_fits start c.requires.seen.strip.is_strip) in
+    let wider = subst (λ (z : ℤ). IsWiderLane c.loop-index.lane (rise_of (left_of start.way) c.point_of_lap-here.result) z c.in-Some.wider) breadth
+    (subst (λ (z : ℤ). IsWiderLane c.loop-index.lane z (to_z w64 (of_z w64 start.breadth)) c.in-Some.wider) across told) in
+    let chosen = subst (λ (step : Vector). IsSoonerOnward c.loop-index.onward step index c.sooner-onward.result) c.between.ensures c.sooner-onward.ensures in
+    let later = subst (λ (n : ℕ). IsSeen points c.args.last n (seen_by (with_across start (seen_of c.loop-index.lane)) tail.end (with_onward start.quarter tail.ahead c.loop-index.onward))) e inv.seen in
+    let few : tail.end ≤ index + limit_of points = omega arith in
+    let seen = seen_onward points c.limit-limit.ensures.closed c.args.last index tail.end start c.loop-index.lane c.in-Some.wider tail.ahead c.loop-index.onward c.sooner-onward.result
+    c.point_of_lap-here.result c.loop-index.there here there inv.lane far wider chosen c.requires.behind few later in
     record {
       index = omega arith;
+      within = few;
       there = here;
-      strides = c.in-Some.ensures.strides;
-      behind = subst (λ (q : Quarter). c.args.tail.end ≤ both_back_of q sooner) (sym before.same_quarter) behind_here;
+      far = passed _ _ _ c.rise-next.result c.diagonal-diagonal.ensures.value c.rise-next.ensures.value most;
+      lane = wider.seen_from;
+      lane_most = subst (λ (z : ℤ). unsigned_abs z ≤ 2 ^ 48) (sym (wider.seen_from ∙ sym across)) (still_most c.rise-in-loop-index.result c.rise-in-loop-index.ensures.most);
       seen = seen;
-      ends = one_more points c.args.last c.args.lap index c.min.result c.loop-index.steps
+      ends = one_more points c.args.last c.args.lap index (tail.end - index) c.loop-index.steps
           (subst (λ (n : ℕ). AreEndsFrom points c.args.last c.args.lap n c.loop-index.steps) e inv.ends) (omega arith)
-          (subst (IsEnd points c.args.last index) e_told (end_of_seen points c.args.last index (seen_by earlier end sooner) seen));
+          (end_of_seen points c.args.last index (seen_by (with_across start (seen_of c.in-Some.wider)) tail.end (with_onward start.quarter tail.ahead c.sooner-onward.result)) seen);
     }
 
-pub is_onward-requires-clause-short : goal.is_onward-requires-clause-short
-is_onward-requires-clause-short c =
-    let some = c.loop-index-test.true in
-    let e : c.loop-index.index ≡ c.loop-index.index - 1 + 1 = omega arith in
-    let unit = unit_between c.args.track.now c.points-points.result.now (c.loop-index.index - 1) c.loop-index.index c.point_of_lap-here.result c.loop-index.there
-    c.between-step.result c.limit-limit.ensures.closed e c.points-points.ensures c.point_of_lap-here.ensures c.loop-index.invariant.there c.between-step.ensures in
-    let x = unit.x in
-    let y = unit.y in
-    record { x = omega arith; y = omega arith }
-
-pub onward-requires-clause-step : goal.onward-requires-clause-step
-onward-requires-clause-step c =
-    let some = c.loop-index-test.true in
-    let e : c.loop-index.index ≡ c.loop-index.index - 1 + 1 = omega arith in
-    goes_by_one c.args.track.now (c.loop-index.index - 1) c.between-step.result c.limit-limit.ensures.closed
-    (is_step c.args.track.now c.points-points.result.now (c.loop-index.index - 1) c.loop-index.index c.point_of_lap-here.result c.loop-index.there
-    c.between-step.result e c.points-points.ensures c.point_of_lap-here.ensures c.loop-index.invariant.there c.between-step.ensures)
-
-pub overflow_cast-steps : goal.overflow_cast-steps
-overflow_cast-steps c =
-    let told : c.min.result ≡ min (c.args.tail.end - (c.loop-index.index - 1)) c.limit-limit.result = lesser_is _ _ _ c.min.ensures in
-    let most = c.limit-limit.ensures.most in
-    let few = c.limit-limit.ensures.few in
-    omega arith
+pub seen-requires-clause-lane : goal.seen-requires-clause-lane
+seen-requires-clause-lane c = across_small (with_across c.args.start (seen_of c.loop-index.lane)) c.loop-index.invariant.seen.strip.is_strip

@@ -1,19 +1,23 @@
-use Rattle.std.proofs.Common.{◌≡◌, ◌+◌, ◌≤◌, min}
+use Rattle.std.proofs.Common.{◌≡◌, ◌+◌, ◌^◌, ◌≤◌, unsigned_abs}
 use Rattle.pt_core.specs.ClosedWalk.{point_at}
-use Rattle.straight_paths.specs.Inner.Strips.{AreStrides}
+use Rattle.straight_paths.specs.Inner.Cones.{left_of, rise_of}
+use Rattle.straight_paths.specs.Inner.Strips.{seen_of, with_across}
 use Rattle.straight_paths.specs.Inner.Sweeps.{AreEndsFrom, IsSeen}
-use Rattle.straight_paths.specs.Inner.Tails.{both_back_of, limit_of}
+use Rattle.straight_paths.specs.Inner.Tails.{limit_of, with_onward}
+use Rattle.straight_paths.specs.Inner.Wedges.{diagonal_of}
 use Rattle.straight_paths.proofs.Runs.{seen_by}
 use Rattle.straight_paths.proofs.fill.onward_back.Given as goal
 
--- the points from the index on are done, and the directions that go back are taken late
+-- the points from the index on are done
 abbrev pub invariant-loop-index : goal.invariant-loop-index
 invariant-loop-index l = record {
   index : l.index ≤ l.from;
+  within : l.tail.end ≤ l.index + limit_of l.track;
   there : l.there ≡ point_at l.track l.index;
-  strides : AreStrides l.strip.quarter l.strip.way l.strides;
-  behind : l.tail.end ≤ both_back_of l.strip.quarter l.ahead;
-  seen : IsSeen l.track l.last l.index (seen_by l.strip (min l.tail.end (l.index + limit_of l.track)) l.ahead);
+  far : l.far ≡ rise_of (diagonal_of l.start.quarter) l.there;
+  lane : l.lane.here ≡ rise_of (left_of l.start.way) l.there;
+  lane_most : unsigned_abs l.lane.here ≤ 2 ^ 48;
+  seen : IsSeen l.track l.last l.index (seen_by (with_across l.start (seen_of l.lane)) l.tail.end (with_onward l.start.quarter l.tail.ahead l.onward));
   ends : AreEndsFrom l.track l.last l.lap l.index l.steps;
 }
 

@@ -4,12 +4,11 @@ use Rattle.std.specs.Int.Signed.{lt_z}
 use Rattle.pt_core.proofs.Sizes.{back, product_most}
 use Rattle.straight_paths.specs.Inner.Cones.{IsShort}
 use Rattle.straight_paths.specs.Cones.{cross_of}
-use Rattle.straight_paths.specs.Inner.Strips.{IsFromTo, IsSpan, IsStrip}
+use Rattle.straight_paths.specs.Inner.Strips.{IsFromTo, IsSpan}
 use Rattle.straight_paths.specs.declared.vector.Vector.{Vector}
 use Rattle.straight_paths.specs.declared.strip.Span.{Span}
-use Rattle.straight_paths.specs.declared.strip.Strip.{Strip}
 use Rattle.straight_paths.proofs.Bounds.{difference_fits}
-use Rattle.straight_paths.proofs.Stepping.{breadth_most}
+use Rattle.straight_paths.proofs.Stepping.{across_small, breadth_most}
 use Rattle.straight_paths.proofs.strip.Strip.across_before.Goals as goal
 
 cross_most : (way step : Vector) (z : ℤ) → IsShort 65535 way → IsShort 1 step → z ≡ cross_of way step → unsigned_abs z ≤ 131070
@@ -17,18 +16,6 @@ cross_most way step z short unit is =
     let p = product_most way.x step.y 65535 1 short.x unit.y in
     let q = product_most way.y step.x 65535 1 short.y unit.x in
     omega (arith, ints)
-
--- how far the path goes to each side, as small numbers
-across_small : (strip : Strip) → IsStrip strip → IsSpan (neg_ℤ (pos 131072)) (pos 131072) strip.across
-across_small strip is =
-    let least = is.least in
-    let greatest = is.greatest in
-    let narrow = is.narrow in
-    let breadth = breadth_most strip is in
-    record {
-      least = record { least = omega (arith, ints); most = least };
-      greatest = record { least = greatest; most = omega (arith, ints) };
-    }
 
 pub shifted-across-requires-clause-small : goal.shifted-across-requires-clause-small
 shifted-across-requires-clause-small c =
