@@ -308,8 +308,8 @@ fn held_by_steps(track: &Track, last: usize, lap: usize, start: Hold, steps: &mu
 // Along such steps the two directions that go back are taken as late as before. So nothing ends sooner but by the limit, and
 // what is behind isn't asked. From where the limit binds, each step is taken by itself.
 //
-// A step goes onward exactly where its start is less far into the quarter than its end, and how far two points are apart across
-// the way doesn't depend on from where one looks. So each point is asked for two numbers, and no step is told by a jump.
+// A step goes onward exactly where its start is less far into the quarter than its end. How far two points are apart across the
+// way is the difference of their numbers too. So each point is asked for two numbers, and no step is told by a jump.
 //
 // Each point is looked up once: the later one of a step is the earlier one of the step before. All of them are in one lap,
 // so that the lookups ask for none.

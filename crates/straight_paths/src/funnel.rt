@@ -8,6 +8,7 @@ ghost use Rattle.straight_paths.specs.Inner.Wedges.{IsQuarter};
 ghost use Rattle.straight_paths.specs.declared.vector.Vector.{Vector};
 
 use crate::cone::Cone;
+use crate::division::Division;
 use crate::quarter::Quarter;
 use crate::vector::Vector;
 
@@ -119,7 +120,7 @@ impl Funnel {
         ensures held { (pos result *ℤ self.flat.y) ≤ℤ self.above }
         ensures no_more { self.above <ℤ (pos (result + 1) *ℤ self.flat.y) }
     {
-        (self.above as u64 / self.flat.y as u64) as usize
+        Division::of(self.above as u64, self.flat.y as u64).whole as usize
     }
 
     /// The cone between its borders, in the quarter that was turned to be the one up and to the right, and maybe mirrored then.
