@@ -8,7 +8,7 @@ use Rattle.pt_core.proofs.Terms.Term.{num, plus, less, times, opposite}
 use Rattle.straight_paths.specs.Straight.{vector_of}
 use Rattle.straight_paths.specs.Cones.{cross_of}
 use Rattle.straight_paths.specs.Inner.Codes.{GoesByOne}
-use Rattle.straight_paths.specs.Inner.Cones.{left_of, rise_of}
+use Rattle.straight_paths.specs.Inner.Cones.{to_left_of, rise_of}
 use Rattle.straight_paths.specs.Inner.Strips.{IsAcrossBefore, IsWiderLane, seen_of, with_across}
 use Rattle.straight_paths.specs.Inner.Sweeps.{IsSeen}
 use Rattle.straight_paths.specs.Inner.Tails.{IsIndexOf, IsSooner, IsSoonerOnward, back_in_column, back_in_row, both_back_of, by_direction, limit_of, with_onward}
@@ -17,7 +17,7 @@ use Rattle.straight_paths.specs.declared.quarter.Quarter.{Quarter}
 use Rattle.straight_paths.specs.declared.strip.Lane.{Lane}
 use Rattle.straight_paths.specs.declared.strip.Strip.{Strip}
 use Rattle.straight_paths.specs.declared.tail.Ahead.{Ahead}
-use Rattle.straight_paths.specs.declared.tail.Onward.{Onward}
+use Rattle.straight_paths.specs.declared.tail.NextOnward.{NextOnward}
 use Rattle.straight_paths.specs.declared.vector.Vector.{Vector}
 use Rattle.straight_paths.proofs.Coding.{goes_by_one}
 use Rattle.straight_paths.proofs.Runs.{behind_of_four, seen_by, seen_by_step}
@@ -26,7 +26,7 @@ use Rattle.straight_paths.proofs.Stepping.{onward_strip}
 -- ---- numbers of points
 
 -- how far a step goes across a way, by the numbers of its two ends
-cross_by_rise : (w : Vector) (h t : Point) → cross_of w (vector_of h t) ≡ rise_of (left_of w) t -ℤ rise_of (left_of w) h
+cross_by_rise : (w : Vector) (h t : Point) → cross_of w (vector_of h t) ≡ rise_of (to_left_of w) t -ℤ rise_of (to_left_of w) h
 cross_by_rise w h t = same_value
     (less (times (num w.x) (less (num t.y) (num h.y))) (times (num w.y) (less (num t.x) (num h.x))))
     (less (plus (times (opposite (num w.y)) (num t.x)) (times (num w.x) (num t.y))) (plus (times (opposite (num w.y)) (num h.x)) (times (num w.x) (num h.y))))
@@ -53,8 +53,8 @@ goes_onward q step (inr level) far =
 
 -- ---- borders
 
-lane_across : (start : Strip) (lane wider : Lane) (here there : Point) → lane.here ≡ rise_of (left_of start.way) there
-    → IsWiderLane lane (rise_of (left_of start.way) here) start.breadth wider
+lane_across : (start : Strip) (lane wider : Lane) (here there : Point) → lane.here ≡ rise_of (to_left_of start.way) there
+    → IsWiderLane lane (rise_of (to_left_of start.way) here) start.breadth wider
     → IsAcrossBefore (with_across start (seen_of lane)) (vector_of here there) (seen_of wider)
 lane_across start lane wider here there is w =
     let by = cross_by_rise start.way here there in
@@ -147,7 +147,7 @@ y_most : (step : Vector) → GoesByOne step → unsigned_abs step.y ≤ 1
 y_most step (inl upright) = one_most step.y upright.1
 y_most step (inr level) = none_most step.y level.0
 
-onward_sooner : (q : Quarter) (base : Ahead) (onward sooner : Onward) (step : Vector) (here : ℕ) → IsQuarter q → GoesByOne step → GoesOnward q step
+onward_sooner : (q : Quarter) (base : Ahead) (onward sooner : NextOnward) (step : Vector) (here : ℕ) → IsQuarter q → GoesByOne step → GoesOnward q step
     → IsSoonerOnward onward step here sooner → IsSooner (with_onward q base onward) step here (with_onward q base sooner)
 onward_sooner q base onward sooner step here is by_one on chosen =
     let row = sooner_by q.right step.x here base.east base.west onward.row sooner.row is.right (x_most step by_one) on.right chosen.row in
@@ -156,22 +156,22 @@ onward_sooner q base onward sooner step here is by_one on chosen =
     record { east = row.0; north = column.0; west = row.1; south = column.1; same_last = refl }
 
 -- the directions that go back are taken where they were
-row_back : (right up : ℤ) (base : Ahead) (onward : Onward)
+row_back : (right up : ℤ) (base : Ahead) (onward : NextOnward)
     → back_in_row right (with_onward (record { right = right; up = up }) base onward) ≡ back_in_row right base
 row_back (pos n) up base onward = refl
 row_back (negsuc n) up base onward = refl
 
-column_back : (right up : ℤ) (base : Ahead) (onward : Onward)
+column_back : (right up : ℤ) (base : Ahead) (onward : NextOnward)
     → back_in_column up (with_onward (record { right = right; up = up }) base onward) ≡ back_in_column up base
 column_back right (pos n) base onward = refl
 column_back right (negsuc n) base onward = refl
 
 -- ---- from one index earlier
 
-pub seen_onward : (points : List Point) → IsClosedWalk points → (last at end : ℕ) (start : Strip) (lane wider : Lane) (base : Ahead) (onward sooner : Onward)
-    (here there : Point) → here ≡ point_at points at → there ≡ point_at points (at + 1) → lane.here ≡ rise_of (left_of start.way) there
+pub seen_onward : (points : List Point) → IsClosedWalk points → (last at end : ℕ) (start : Strip) (lane wider : Lane) (base : Ahead) (onward sooner : NextOnward)
+    (here there : Point) → here ≡ point_at points at → there ≡ point_at points (at + 1) → lane.here ≡ rise_of (to_left_of start.way) there
     → rise_of (diagonal_of start.quarter) here <ℤ rise_of (diagonal_of start.quarter) there
-    → IsWiderLane lane (rise_of (left_of start.way) here) start.breadth wider → IsSoonerOnward onward (vector_of here there) at sooner
+    → IsWiderLane lane (rise_of (to_left_of start.way) here) start.breadth wider → IsSoonerOnward onward (vector_of here there) at sooner
     → end ≤ both_back_of start.quarter base → end ≤ at + limit_of points
     → IsSeen points last (at + 1) (seen_by (with_across start (seen_of lane)) end (with_onward start.quarter base onward))
     → IsSeen points last at (seen_by (with_across start (seen_of wider)) end (with_onward start.quarter base sooner))

@@ -12,8 +12,8 @@ abbrev pub nowhere : Vector
 nowhere = record { x = pos 0; y = pos 0 }
 
 -- the vector turned to the left by a right angle
-abbrev pub left_of : Vector → Vector
-left_of way = record { x = neg_ℤ way.y; y = way.x }
+abbrev pub to_left_of : Vector → Vector
+to_left_of way = record { x = neg_ℤ way.y; y = way.x }
 
 -- how far along a vector a point is, times the vector's length (their dot product)
 abbrev pub rise_of : Vector → Point → ℤ

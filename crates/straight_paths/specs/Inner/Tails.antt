@@ -6,7 +6,7 @@ use Rattle.straight_paths.specs.Inner.Cones.{IsClear}
 use Rattle.straight_paths.specs.declared.vector.Vector.{Vector}
 use Rattle.straight_paths.specs.declared.quarter.Quarter.{Quarter}
 use Rattle.straight_paths.specs.declared.tail.Ahead.{Ahead}
-use Rattle.straight_paths.specs.declared.tail.Onward.{Onward}
+use Rattle.straight_paths.specs.declared.tail.NextOnward.{NextOnward}
 use Rattle.straight_paths.specs.declared.tail.Tail.{Tail}
 use Rattle.pt_core.specs.declared.limits.TheConstants.{MOST_STEPS}
 
@@ -117,7 +117,7 @@ by_direction (pos n) below above = above
 by_direction (negsuc n) below above = below
 
 -- the same places, but for the two directions that go onward in a quarter
-abbrev pub with_onward : Quarter → Ahead → Onward → Ahead
+abbrev pub with_onward : Quarter → Ahead → NextOnward → Ahead
 with_onward quarter ahead onward = record {
   east = by_direction quarter.right ahead.east onward.row;
   north = by_direction quarter.up ahead.north onward.column;
@@ -127,7 +127,7 @@ with_onward quarter ahead onward = record {
 }
 
 -- where the steps that go onward are taken next, if this one of them is taken at an earlier index
-pub record IsSoonerOnward (onward : Onward) (step : Vector) (here : ℕ) (sooner : Onward) : Type 0 where
+pub record IsSoonerOnward (onward : NextOnward) (step : Vector) (here : ℕ) (sooner : NextOnward) : Type 0 where
   pub row : IsIndexOf step.x (pos 0) onward.row here sooner.row
   pub column : IsIndexOf step.x (pos 0) here onward.column sooner.column
 

@@ -4,7 +4,7 @@ use Rattle.std.specs.Int.Signed.{le_z}
 use Rattle.pt_core.specs.ClosedWalk.{point_at}
 use Rattle.pt_core.specs.declared.point.Point.{Point}
 use Rattle.pt_core.proofs.Sizes.{back}
-use Rattle.straight_paths.specs.Inner.Cones.{left_of, rise_of}
+use Rattle.straight_paths.specs.Inner.Cones.{to_left_of, rise_of}
 use Rattle.straight_paths.specs.Inner.Strips.{IsWiderLane, seen_of, with_across}
 use Rattle.straight_paths.specs.Inner.Sweeps.{AreEndsFrom, IsSeen}
 use Rattle.straight_paths.specs.Inner.Tails.{IsSoonerOnward, limit_of, with_onward}
@@ -83,7 +83,7 @@ loop-index-preserved c =
     let across = passed _ _ _ c.rise-in-loop-index.result c.to_left-side.ensures.value c.rise-in-loop-index.ensures.value c.rise-in-loop-index.ensures.most in
     let told : IsWiderLane c.loop-index.lane (to_z w64 (of_z w64 c.rise-in-loop-index.result)) (to_z w64 (of_z w64 start.breadth)) c.in-Some.wider = c.in-Some.ensures in
     let breadth = to_z-of_z w64 start.breadth (breadth_fits start c.requires.seen.strip.is_strip) in
-    let wider = subst (λ (z : ℤ). IsWiderLane c.loop-index.lane (rise_of (left_of start.way) c.point_of_lap-here.result) z c.in-Some.wider) breadth
+    let wider = subst (λ (z : ℤ). IsWiderLane c.loop-index.lane (rise_of (to_left_of start.way) c.point_of_lap-here.result) z c.in-Some.wider) breadth
     (subst (λ (z : ℤ). IsWiderLane c.loop-index.lane z (to_z w64 (of_z w64 start.breadth)) c.in-Some.wider) across told) in
     let chosen = subst (λ (step : Vector). IsSoonerOnward c.loop-index.onward step index c.sooner-onward.result) c.between.ensures c.sooner-onward.ensures in
     let later = subst (λ (n : ℕ). IsSeen points c.args.last n (seen_by (with_across start (seen_of c.loop-index.lane)) tail.end (with_onward start.quarter tail.ahead c.loop-index.onward))) e inv.seen in

@@ -1,6 +1,6 @@
 use Rattle.std.proofs.Common.{◌≡◌, ◌+◌, ◌^◌, ◌≤◌, unsigned_abs}
 use Rattle.pt_core.specs.ClosedWalk.{point_at}
-use Rattle.straight_paths.specs.Inner.Cones.{left_of, rise_of}
+use Rattle.straight_paths.specs.Inner.Cones.{to_left_of, rise_of}
 use Rattle.straight_paths.specs.Inner.Strips.{seen_of, with_across}
 use Rattle.straight_paths.specs.Inner.Sweeps.{AreEndsFrom, IsSeen}
 use Rattle.straight_paths.specs.Inner.Tails.{limit_of, with_onward}
@@ -15,7 +15,7 @@ invariant-loop-index l = record {
   within : l.tail.end ≤ l.index + limit_of l.track;
   there : l.there ≡ point_at l.track l.index;
   far : l.far ≡ rise_of (diagonal_of l.start.quarter) l.there;
-  lane : l.lane.here ≡ rise_of (left_of l.start.way) l.there;
+  lane : l.lane.here ≡ rise_of (to_left_of l.start.way) l.there;
   lane_most : unsigned_abs l.lane.here ≤ 2 ^ 48;
   seen : IsSeen l.track l.last l.index (seen_by (with_across l.start (seen_of l.lane)) l.tail.end (with_onward l.start.quarter l.tail.ahead l.onward));
   ends : AreEndsFrom l.track l.last l.lap l.index l.steps;
