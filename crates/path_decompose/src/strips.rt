@@ -74,6 +74,18 @@ pub(crate) fn spot_at(starts: &[u32], rows: usize, x: u32, y: u32) -> Spot
     }
 }
 
+/// The same, for who goes along edges and comes to another strip.
+//
+// That is seldom. It isn't inlined, so that loops that go along edges prepare nothing for it.
+#[cold]
+#[inline(never)]
+fn spot_anew(starts: &[u32], rows: usize, x: u32, y: u32) -> Spot
+    requires { HasSpot rows starts.now x y }
+    ensures { IsSpot rows starts.now x y result }
+{
+    spot_at(starts, rows, x, y)
+}
+
 /// Where those of the row above row `y` stand, by where those of the row itself do.
 //
 // In most rows they are the next two words of the same block, and else the first two of the next one. The rows, the
@@ -133,7 +145,7 @@ pub(crate) fn spot_right(spot: Spot, starts: &[u32], rows: usize, x: u32, y: u32
     if bit != 0 {
         Spot { bit, ..spot }
     } else {
-        spot_at(starts, rows, x + 1, y)
+        spot_anew(starts, rows, x + 1, y)
     }
 }
 
@@ -149,7 +161,7 @@ pub(crate) fn spot_left(spot: Spot, starts: &[u32], rows: usize, x: u32, y: u32)
     if bit != 0 {
         Spot { bit, ..spot }
     } else {
-        spot_at(starts, rows, x - 1, y)
+        spot_anew(starts, rows, x - 1, y)
     }
 }
 
