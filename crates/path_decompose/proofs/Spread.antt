@@ -98,28 +98,30 @@ blocks_set starts words i x blocks some =
       apart = blocks.apart;
     }
 
-put_in : (starts words all : List ℕ) (start place word : ℕ) → AreBlocks starts words → spread starts words ≡ all → place < length all → 0 < start → start ≡ get_or starts (place / 16) 0
-    → AreBlocks starts (set words (start + place % 16) word) × (spread starts (set words (start + place % 16) word) ≡ set all place word)
-put_in starts words all start place word blocks is inside some begins =
-    let own : 0 < get_or starts (place / 16) 0 = omega (arith, some, begins) in
-    let at : stands_at starts place ≡ start + place % 16 = omega (arith, begins) in
-    subst (λ n. AreBlocks starts (set words n word) × (spread starts (set words n word) ≡ set all place word)) at (
-      blocks_set starts words place word blocks own,
-      spread-set starts words place word blocks (omega (arith, inside, ap length is, length-spread starts words)) own ∙ ap (λ ws. set ws place word) is,
+put_in : (starts words all : List ℕ) (start block i word : ℕ) → AreBlocks starts words → spread starts words ≡ all → 16 * block < length all → i < 16 → 0 < start → start ≡ get_or starts block 0
+    → AreBlocks starts (set words (start + i) word) × (spread starts (set words (start + i) word) ≡ set all (16 * block + i) word)
+put_in starts words all start block i word blocks is inside small some begins =
+    let here : (16 * block + i) / 16 ≡ block = omega (arith, small) in
+    let own : 0 < get_or starts ((16 * block + i) / 16) 0 = omega (arith, some, begins, ap (λ b. get_or starts b 0) here) in
+    let within : 16 * block + i < 16 * length starts = omega (arith, small, inside, ap length is, length-spread starts words) in
+    subst (λ n. AreBlocks starts (set words n word) × (spread starts (set words n word) ≡ set all (16 * block + i) word)) (sym (in_block starts block i start small begins)) (
+      blocks_set starts words (16 * block + i) word blocks own,
+      spread-set starts words (16 * block + i) word blocks within own ∙ ap (λ ws. set ws (16 * block + i) word) is,
     )
 
--- and two words side by side
-pub put_two_in : (starts words all : List ℕ) (start place first second : ℕ) → AreBlocks starts words → spread starts words ≡ all → place % 2 ≡ 0 → place + 1 < length all → 0 < start → start ≡ get_or starts (place / 16) 0
-    → AreBlocks starts (set (set words (start + place % 16) first) (start + place % 16 + 1) second)
-    × (spread starts (set (set words (start + place % 16) first) (start + place % 16 + 1) second) ≡ set (set all place first) (place + 1) second)
-put_two_in starts words all start place first second blocks is even inside some begins =
-    let once : List ℕ = set words (start + place % 16) first in
-    let one = put_in starts words all start place first blocks is (omega arith) some begins in
-    let block : place / 16 ≡ (place + 1) / 16 = omega (arith, even) in
-    let at : start + (place + 1) % 16 ≡ start + place % 16 + 1 = omega (arith, even) in
-    let within : place + 1 < length (set all place first) = omega (arith, inside, length-set all place first) in
-    subst (λ n. AreBlocks starts (set once n second) × (spread starts (set once n second) ≡ set (set all place first) (place + 1) second)) at
-    (put_in starts once (set all place first) start (place + 1) second one.0 one.1 within some (begins ∙ ap (λ b. get_or starts b 0) block))
+-- and the next one
+pub put_two_in : (starts words all : List ℕ) (start block i first second : ℕ) → AreBlocks starts words → spread starts words ≡ all → 16 * block < length all → i % 2 ≡ 0 → i < 16 → 0 < start → start ≡ get_or starts block 0
+    → AreBlocks starts (set (set words (start + i) first) (start + i + 1) second)
+    × (spread starts (set (set words (start + i) first) (start + i + 1) second) ≡ set (set all (16 * block + i) first) (16 * block + i + 1) second)
+put_two_in starts words all start block i first second blocks is inside even small some begins =
+    let once : List ℕ = set words (start + i) first in
+    let one = put_in starts words all start block i first blocks is inside small some begins in
+    let at : start + (i + 1) ≡ start + i + 1 = omega arith in
+    let place : 16 * block + (i + 1) ≡ 16 * block + i + 1 = omega arith in
+    let within : 16 * block < length (set all (16 * block + i) first) = omega (arith, inside, length-set all (16 * block + i) first) in
+    subst (λ n. AreBlocks starts (set once n second) × (spread starts (set once n second) ≡ set (set all (16 * block + i) first) (16 * block + i + 1) second)) at
+    (subst (λ n. AreBlocks starts (set once (start + (i + 1)) second) × (spread starts (set once (start + (i + 1)) second) ≡ set (set all (16 * block + i) first) n second)) place
+    (put_in starts once (set all (16 * block + i) first) start block (i + 1) second one.0 one.1 within (omega (arith, even, small)) some begins))
 
 set_same : (xs : List ℕ) (i x : ℕ) → get_or xs i 0 ≡ x → set xs i x ≡ xs
 set_same xs i x is = ap (set xs i) (sym is) ∙ set-get_or xs i 0

@@ -81,13 +81,21 @@ impl Blocks {
         self.words[self.starts[block] as usize + i]
     }
 
-    /// Puts two words side by side, the first at an even place. Their block has room from then on.
-    pub(crate) fn put_two(&mut self, place: usize, first: u64, second: u64) -> Result<(), NoMemory>
-        requires even { place % 2 ≡ 0 }
-        requires inside { place + 1 < length self.old }
-        ensures { OnOk result (self.new ≡ set (set self.old place first) (place + 1) second) }
+    /// Puts word i of a block, where i is even, and the next one. The block has room from then on.
+    pub(crate) fn put_two(
+        &mut self,
+        block: usize,
+        i: usize,
+        first: u64,
+        second: u64,
+    ) -> Result<(), NoMemory>
+        requires block { BLOCK * block < length self.old }
+        requires even { i % 2 ≡ 0 }
+        requires word { i < BLOCK }
+        ensures { OnOk result (self.new
+            ≡ set (set self.old (BLOCK * block + i) first) (BLOCK * block + i + 1) second) }
     {
-        let at = room_of(&mut self.starts, &mut self.words, place / BLOCK)? + place % BLOCK;
+        let at = room_of(&mut self.starts, &mut self.words, block)? + i;
         self.words[at] = first;
         self.words[at + 1] = second;
         Ok(())

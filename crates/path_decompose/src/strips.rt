@@ -177,6 +177,20 @@ pub(crate) fn take_edge(words: &mut [u64], spot: Spot, kind: usize)
     words[spot.down + kind] &= !spot.bit;
 }
 
+/// The block of a row in a strip, where strips are whole blocks.
+//
+// From strip to strip it is as many blocks further on, and the row's place in it stays the same.
+#[inline(always)]
+fn block_of(rows: usize, strip: usize, y: usize) -> usize
+    requires rows { rows < 2 ^ 16 }
+    requires whole { rows % BLOCK_ROWS ≡ 0 }
+    requires strip { strip < 2 ^ 16 }
+    requires y { y < rows }
+    ensures { BLOCK * result + 2 * (y % BLOCK_ROWS) ≡ word_place rows DOWN strip y }
+{
+    strip * (rows / BLOCK_ROWS) + y / BLOCK_ROWS
+}
+
 /// Puts the edges along a row of pixels, and between it and the row above, into row `y` of the strips, which has none.
 //
 // It isn't inlined, so that its loop has the registers to itself.
@@ -191,6 +205,7 @@ pub(crate) fn put_row(
     requires count { length above.now ≡ length below.now }
     requires few { length below.now < 2 ^ 15 }
     requires rows { rows < 2 ^ 16 }
+    requires whole { rows % BLOCK_ROWS ≡ 0 }
     requires y { y < rows }
     requires room { 2 * ((length below.now + 1) * rows) ≤ length words.old }
     requires none { (k u : ℕ) → k < 2 → has_edge rows words.old k u y ≡ false }
@@ -224,6 +239,7 @@ fn put_strip(
 ) -> Result<(), NoMemory>
     requires strip { strip < 2 ^ 16 }
     requires rows { rows < 2 ^ 16 }
+    requires whole { rows % BLOCK_ROWS ≡ 0 }
     requires y { y < rows }
     requires room { 2 * ((strip + 1) * rows) ≤ length words.old }
     requires none { (k u : ℕ) → k < 2 → u / 64 ≡ strip → has_edge rows words.old k u y ≡ false }
@@ -240,7 +256,7 @@ fn put_strip(
     let left = pixels ^ pixels_behind(before.1, here.1, 4);
     // Most words stay 0, as they are already: these are not written.
     if down | left != 0 {
-        words.put_two(word_place(rows, DOWN, strip, y), down, left)?;
+        words.put_two(block_of(rows, strip, y), 2 * (y % BLOCK_ROWS), down, left)?;
     }
     Ok(())
 }
@@ -297,8 +313,6 @@ pub(crate) fn first_edge(words: &Blocks, rows: usize, strips: usize, x: u32, y: 
 }
 
 /// The word with the edges that go down in one row of a strip, where strips are whole blocks.
-//
-// Along a row its place in each block is the same.
 #[inline(always)]
 fn down_in(words: &Blocks, rows: usize, strip: usize, y: usize) -> u64
     requires rows { rows < 2 ^ 16 }
@@ -308,10 +322,7 @@ fn down_in(words: &Blocks, rows: usize, strip: usize, y: usize) -> u64
     requires room { 2 * ((strip + 1) * rows) ≤ length words.now }
     ensures { result ≡ slice_index_or words.now (word_place rows DOWN strip y) 0 }
 {
-    words.get_in(
-        strip * (rows / BLOCK_ROWS) + y / BLOCK_ROWS,
-        2 * (y % BLOCK_ROWS),
-    )
+    words.get_in(block_of(rows, strip, y), 2 * (y % BLOCK_ROWS))
 }
 
 /// The edges that go down in 8 columns from column `x` on, in bits 0 to 7. What the other bits are isn't told.

@@ -1,10 +1,10 @@
 use Rattle.std.proofs.Common.{◌∙◌, length, get_or, ap, arith}
-use Rattle.path_decompose.proofs.EdgeBits.{place_inside, place_in_block}
+use Rattle.path_decompose.proofs.EdgeBits.{place_inside}
 use Rattle.path_decompose.proofs.strips.down_in.Goals as goal
 
 pub get_in-requires-clause-block : goal.get_in-requires-clause-block
 get_in-requires-clause-block c =
-    omega (arith, place_in_block c.args.rows c.args.strip c.args.y c.requires.whole, place_inside c.args.rows c.args.strip c.args.y 0 (length c.args.words.now) c.requires.y (omega arith) c.requires.room)
+    omega (arith, c.block_of.ensures, place_inside c.args.rows c.args.strip c.args.y 0 (length c.args.words.now) c.requires.y (omega arith) c.requires.room)
 
 pub returns : goal.returns
-returns c = c.get_in.ensures ∙ ap (λ n. get_or c.args.words.now n 0) (place_in_block c.args.rows c.args.strip c.args.y c.requires.whole)
+returns c = c.get_in.ensures ∙ ap (λ n. get_or c.args.words.now n 0) c.block_of.ensures
