@@ -312,6 +312,43 @@ pub(crate) fn first_edge(words: &Blocks, rows: usize, strips: usize, x: u32, y: 
     None
 }
 
+/// Whether no edge goes down in a band of rows: those of one block in each strip.
+pub(crate) fn is_white_band(words: &Blocks, rows: usize, strips: usize, band: usize) -> bool
+    requires rows { rows < 2 ^ 16 }
+    requires whole { rows % BLOCK_ROWS ≡ 0 }
+    requires strips { strips < 2 ^ 10 }
+    requires band { band < rows / BLOCK_ROWS }
+    requires room { length words.now ≡ 2 * (strips * rows) }
+    ensures { IsTrue result → (u v : ℕ) → v / BLOCK_ROWS ≡ band
+        → has_edge rows words.now DOWN u v ≡ false }
+{
+    for strip in 0..strips {
+        if !is_white_block(words, rows, strip, band) {
+            return false;
+        }
+    }
+    true
+}
+
+/// The same in one strip.
+#[inline(always)]
+fn is_white_block(words: &Blocks, rows: usize, strip: usize, band: usize) -> bool
+    requires rows { rows < 2 ^ 16 }
+    requires whole { rows % BLOCK_ROWS ≡ 0 }
+    requires strip { strip < 2 ^ 16 }
+    requires band { band < rows / BLOCK_ROWS }
+    requires room { 2 * ((strip + 1) * rows) ≤ length words.now }
+    ensures { IsTrue result → (u v : ℕ) → u / 64 ≡ strip → v / BLOCK_ROWS ≡ band
+        → has_edge rows words.now DOWN u v ≡ false }
+{
+    for i in 0..BLOCK_ROWS {
+        if down_in(words, rows, strip, BLOCK_ROWS * band + i) != 0 {
+            return false;
+        }
+    }
+    true
+}
+
 /// The word with the edges that go down in one row of a strip, where strips are whole blocks.
 #[inline(always)]
 fn down_in(words: &Blocks, rows: usize, strip: usize, y: usize) -> u64
