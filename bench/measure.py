@@ -46,9 +46,11 @@ def timed(words, page=os.devnull, document=os.devnull, watch=None):
 
     `watch` is called with the process's number a hundred times a second; where it is left out nothing looks on.
     """
+    # The program is found before: to look for its name in one folder after another would be a part of its time.
+    called = [shutil.which(words[0]), *words[1:]]
     with open(page, "rb") as source, open(document, "wb") as sink:
         start = time.monotonic()
-        process = subprocess.Popen(words, stdin=source, stdout=sink)
+        process = subprocess.Popen(called, stdin=source, stdout=sink)
         ended, status, usage = os.wait4(process.pid, os.WNOHANG if watch else 0)
         while not ended:
             watch(process.pid)
