@@ -1,10 +1,10 @@
 -- No pixel off the page is inside a path.
-use Rattle.std.proofs.Common.{◌≡◌, ℕ, ◌≤◌, false, List, get_or, All, refl, ap, sym, ◌∙◌, inl, inr, arith}
+use Rattle.std.proofs.Common.{◌≡◌, ℕ, ◌≤◌, false, List, get_or, All, refl, sym, ◌∙◌, inl, inr, arith}
 use Rattle.std.proofs.lemmas.Bool.{cases_Bool, cases_lt, false≢true}
 use Rattle.std.proofs.lemmas.Bool.Decides.{nat_tests}
 use Rattle.pt_core.specs.declared.path.Sign.{Sign}
 use Rattle.pt_core.specs.declared.policy.Policy.{Policy}
-use Rattle.bit_image.specs.Image.{Image, Fits, differ}
+use Rattle.bit_image.specs.Image.{Image, Fits}
 use Rattle.turn_policies.specs.declared.edge.Edge.{Edge}
 use Rattle.boundary_edges.specs.GridEdges.{GridEdge, upright, level, is_in_row}
 use Rattle.boundary_edges.specs.Inner.GridEdges.{IsLineOn}

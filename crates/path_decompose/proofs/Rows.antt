@@ -1,12 +1,11 @@
 -- A closed walk has an even number of upright lines in each row, since it changes sides of the row at each.
-use Rattle.std.proofs.Common.{◌≡◌, ℕ, zero, suc, ◌+◌, ◌%◌, ◌<◌, Bool, false, ℤ, pos, negsuc, ◌≤ℤ◌, nat_abs, nat_eq, nat_lt, min, cond, ◌⊎◌, List, [], ◌∷◌, length, get_or, drop, All, count_by, refl, ap, sym, subst, ◌∙◌, inl, inr, arith}
+use Rattle.std.proofs.Common.{◌≡◌, ℕ, zero, suc, ◌+◌, ◌%◌, ◌<◌, Bool, false, nat_abs, nat_eq, nat_lt, min, cond, ◌⊎◌, List, [], ◌∷◌, length, get_or, drop, All, count_by, refl, ap, sym, subst, ◌∙◌, inl, inr, arith}
 use Rattle.std.proofs.Math.Seq.{drop-cons}
 use Rattle.std.proofs.Math.Nat.{mod-eq_of_lt, mod-lt, mod_self}
 use Rattle.std.proofs.lemmas.Bool.{eq-eqb, ne_eqb}
 use Rattle.std.proofs.lemmas.Bool.Decides.{nat_tests}
-use Rattle.std.proofs.lemmas.Int.{ints}
 use Rattle.std.proofs.lemmas.List.{drop_all}
-use Rattle.pt_core.specs.ClosedWalk.{origin, point_at, IsNextTo, IsUnitStep, IsClosedWalk}
+use Rattle.pt_core.specs.ClosedWalk.{origin, point_at, IsUnitStep, IsClosedWalk}
 use Rattle.pt_core.specs.declared.point.Point.{Point}
 use Rattle.bit_image.specs.Image.{differ}
 use Rattle.boundary_edges.specs.Bounds.{IsCornerOf}

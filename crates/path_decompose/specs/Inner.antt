@@ -2,6 +2,5 @@
 pub mod Decomposition
 pub mod Start
 pub mod Trail
-
 pub use Rattle.boundary_edges.specs.Inner.GridEdges
 pub use Rattle.boundary_edges.specs.Inner.Bounds

@@ -8,9 +8,7 @@ ghost use Rattle.turn_policies.specs.Majority.{major};
 ghost use Rattle.turn_policies.specs.Turn.{goes_right, turn};
 ghost use Rattle.boundary_edges.specs.Inner.BoundaryBits.{IsSpotAt};
 
-use boundary_edges::Edges;
-use boundary_edges::Layout;
-use boundary_edges::Spot;
+use boundary_edges::{Edges, Layout, Spot};
 use pt_core::{Policy, Sign};
 use turn_policies::{Dir, asks_majority, goes_right, major_in};
 

@@ -13,10 +13,10 @@ ghost use Rattle.path_decompose.specs.Inner.Start.{IsWhiteThrough, IsStart};
 ghost use Rattle.path_decompose.specs.AllPaths.{IsEvenOdd, IsEdgesOnce};
 ghost use Rattle.pt_core.specs.declared.path.Path.{Path};
 
-use boundary_edges::Edges;
 use crate::trail::Trail;
 use crate::walk::walk_round;
 use bit_image::Bitmap;
+use boundary_edges::Edges;
 use pt_core::{NoMemory, Path, Policy, Sequence, Sign};
 use std::alloc::Global;
 

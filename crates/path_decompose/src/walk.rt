@@ -10,10 +10,8 @@ ghost use Rattle.turn_policies.specs.Boundary.{IsBoundary};
 ghost use Rattle.turn_policies.specs.Turn.{next};
 
 use crate::corner::turned_at;
-use boundary_edges::Edges;
-use boundary_edges::Layout;
-use boundary_edges::Spot;
 use crate::trail::Trail;
+use boundary_edges::{Edges, Layout, Spot};
 use pt_core::{NoMemory, Point, Policy, Sign};
 use turn_policies::{Dir, Edge};
 
