@@ -41,8 +41,8 @@ pub struct Span {
     pub greatest: i64,
 }
 
-/// Where a strip lies on the page, by numbers of points that rise evenly across its way: those of its borders, and that of the
-/// point from which it is seen.
+/// Where a strip lies on the page, by how far across its way places are: the point from which it is seen, and its borders. Each
+/// number is a place's rise along the way turned to the left (`Vector::rise`).
 //
 // Borders that are seen from each point anew have to be shifted with each step. These stay where they are.
 #[derive(Clone, Copy)]
@@ -88,7 +88,7 @@ impl Strides {
 }
 
 impl Lane {
-    /// Of a strip that is seen from the point of this number.
+    /// Of a strip that is seen from a point so far across its way.
     #[inline(always)]
     pub fn of(across: Span, here: i64) -> Lane
         requires across { IsSpan (neg_ℤ (pos 131072)) (pos 131072) across }
@@ -105,7 +105,7 @@ impl Lane {
         }
     }
 
-    /// With the point of this number in front, if it isn't broader than that then.
+    /// With a point so far across the way in front, if it isn't broader than `breadth` then.
     #[inline(always)]
     pub fn before(self, here: i64, breadth: i64) -> Option<Lane>
         requires lane { IsSpan (neg_ℤ (pos 131072)) (pos 131072) (seen_of self) }
