@@ -1,1 +1,4 @@
+pub mod Floors
+pub mod Lists
 pub mod Vertices
+pub mod Pieces

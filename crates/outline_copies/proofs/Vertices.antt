@@ -18,7 +18,7 @@ use Rattle.outline_copies.specs.Moved.{AreMoved, in_units, moved_by}
 -- ---- offsets between points of a path
 
 -- a difference stays
-same_way : (a b move : ℤ) → (a +ℤ move) -ℤ (b +ℤ move) ≡ a -ℤ b
+pub same_way : (a b move : ℤ) → (a +ℤ move) -ℤ (b +ℤ move) ≡ a -ℤ b
 same_way a b move = omega (arith, ints)
 
 module _ (right up : ℤ) (points other : List Point) (copy : AreMoved right up points other) where
