@@ -8,11 +8,15 @@ use Rattle.pt_core.specs.ClosedWalk.{origin, point_at}
 use Rattle.pt_core.specs.declared.point.Point.{Point}
 use Rattle.outline_copies.specs.Moved.{moved_by}
 
--- a point of a moved list
+-- a value of a closed list, each of whose values is moved
+pub moved_round : {X Y : Type 0} (move : X → Y) (xs : List X) (d : X) (e : Y) (k : ℕ) → 0 < length xs
+    → get_or (map move xs) (k % length (map move xs)) e ≡ move (get_or xs (k % length xs) d)
+moved_round move xs d e k some =
+    ap (λ n. get_or (map move xs) (k % n) e) (length-map xs move)
+    ∙ get_or-map move xs (k % length xs) d e (mod-lt k some)
+
 pub moved_at : (right up : ℤ) (points : List Point) (k : ℕ) → 0 < length points → point_at (map (moved_by right up) points) k ≡ moved_by right up (point_at points k)
-moved_at right up points k some =
-    ap (λ n. get_or (map (moved_by right up) points) (k % n) origin) (length-map points (moved_by right up))
-    ∙ get_or-map (moved_by right up) points (k % length points) origin origin (mod-lt k some)
+moved_at right up points k some = moved_round (moved_by right up) points origin origin k some
 
 -- a list by its numbers, of which each value is another one's
 pub mapped_range : {X Y : Type 0} (move : X → Y) (f : ℕ → X) (g : ℕ → Y) (n : ℕ) (d : X) (e : Y) → ((k : ℕ) → k < n → g k ≡ move (f k))

@@ -29,7 +29,7 @@ middle_moved right up p q =
     let y = halfway p.y q.y up in
     λ i. record { x = x i; y = y i }
 
-onward : (a b move : ℤ) → (a +ℤ move) +ℤ b ≡ (a +ℤ b) +ℤ move
+pub onward : (a b move : ℤ) → (a +ℤ move) +ℤ b ≡ (a +ℤ b) +ℤ move
 onward a b move = omega (arith, ints)
 
 part_on : (al : ℕ) (from to move : ℤ) → part_of al (from +ℤ move) (to +ℤ move) ≡ part_of al from to +ℤ move
