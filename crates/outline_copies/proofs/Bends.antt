@@ -1,6 +1,5 @@
 -- The bends of a moved outline.
-use Rattle.std.proofs.Common.{◌≡◌, ℕ, ◌+◌, ◌-◌, ◌<◌, ℤ, ◌+ℤ◌, ◌-ℤ◌, Bool, List, [], ◌∷◌, length, map, sym, ap, ◌∙◌, refl, arith}
-use Rattle.std.proofs.lemmas.Int.{ints}
+use Rattle.std.proofs.Common.{◌≡◌, ℕ, ◌+◌, ◌-◌, ◌<◌, ℤ, Bool, length, map, ap, ◌∙◌, refl, arith}
 use Rattle.std.proofs.lemmas.List.{length-map}
 use Rattle.std.specs.List.{range_with_len}
 use Rattle.pt_core.specs.ClosedWalk.{origin}
@@ -10,7 +9,7 @@ use Rattle.pt_core.specs.declared.piece.Piece.TheVariants.{Corner, Curve}
 use Rattle.pt_core.specs.declared.point.Point.{Point}
 use Rattle.curve_join.specs.Bends.{bend_at, bend_of, bends_of, bulge_of, own_area}
 use Rattle.curve_join.specs.Join.{no_bend}
-use Rattle.curve_join.specs.Outline.{Outline, first_of, is_curve, outline, piece_al, piece_at, second_of, start_at, vertex, vertex_after, vertex_before}
+use Rattle.curve_join.specs.Outline.{Outline, is_curve, outline, piece_at, start_at, vertex, vertex_after, vertex_before}
 use Rattle.curve_join.specs.Vector.{sense_of, square_of, vector_cross, way_of}
 use Rattle.curve_join.specs.declared.bend.Bend.{Bend}
 use Rattle.curve_join.specs.declared.vector.Displacement.{Displacement}
@@ -84,12 +83,12 @@ module _ (right up : ℤ) (o : Outline) (one_each : length o.pieces ≡ length o
       let vs = map (moved_by right up) o.vertices in
       let ps = map (piece_moved_by right up) o.pieces in
       let before = ap (λ n. vertex (outline_moved right up o) (k + (n - 1))) (length-map o.vertices (moved_by right up))
-          ∙ moved_at right up o.vertices (k + (length o.vertices - 1)) corners in
+      ∙ moved_at right up o.vertices (k + (length o.vertices - 1)) corners in
       let at = moved_at right up o.vertices k corners in
       let after = moved_at right up o.vertices (k + 1) corners in
       let start = ap (λ n. end_of (piece_at ps (k + (n - 1)))) (length-map o.pieces (piece_moved_by right up))
-          ∙ ap end_of (moved_round (piece_moved_by right up) o.pieces (Corner origin origin) (Corner origin origin) (k + (length o.pieces - 1)) some)
-          ∙ end_moved right up (piece_at o.pieces (k + (length o.pieces - 1))) in
+      ∙ ap end_of (moved_round (piece_moved_by right up) o.pieces (Corner origin origin) (Corner origin origin) (k + (length o.pieces - 1)) some)
+      ∙ end_moved right up (piece_at o.pieces (k + (length o.pieces - 1))) in
       let piece = moved_round (piece_moved_by right up) o.pieces (Corner origin origin) (Corner origin origin) k some in
       (λ i. bend_of (before i) (at i) (after i) (start i) (piece i))
       ∙ one_bend right up (vertex_before o k) (vertex o k) (vertex_after o k) (start_at o k) (piece_at o.pieces k)

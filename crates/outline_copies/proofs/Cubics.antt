@@ -1,5 +1,5 @@
 -- A joined curve between moved places.
-use Rattle.std.proofs.Common.{◌≡◌, ℕ, zero, suc, Bool, true, false, cond, nat_lt, ◌+◌, ◌-◌, ◌*◌, ◌≤◌, ℤ, pos, ◌+ℤ◌, ◌-ℤ◌, ◌*ℤ◌, sym, ap, ◌∙◌, arith}
+use Rattle.std.proofs.Common.{◌≡◌, ℕ, zero, suc, Bool, true, false, cond, nat_lt, ◌+◌, ◌-◌, ◌*◌, ◌≤◌, ℤ, pos, ◌+ℤ◌, ◌*ℤ◌, ap, ◌∙◌, arith}
 use Rattle.std.proofs.lemmas.Int.{ints}
 use Rattle.std.proofs.Math.Path.{fun_ext}
 use Rattle.std.specs.Prelude.{unsigned_abs}
@@ -7,7 +7,7 @@ use Rattle.pt_core.specs.Floor.{floor_of}
 use Rattle.pt_core.specs.declared.point.Point.{Point}
 use Rattle.pt_core.proofs.Terms.{same_value}
 use Rattle.pt_core.proofs.Terms.Term.{num, plus, times}
-use Rattle.curve_join.specs.Cubic.{cubic, cubic_of, led, place_at, quadratic, slant_at, tangent_at, touching_of, touching_part}
+use Rattle.curve_join.specs.Cubic.{cubic, cubic_of, led, place_at, quadratic, slant_at, touching_of, touching_part}
 use Rattle.curve_join.specs.Least.{least_at}
 use Rattle.curve_join.specs.Vector.{vector_cross, way_of}
 use Rattle.curve_join.specs.declared.cubic.Cubic.{Cubic}
@@ -16,7 +16,6 @@ use Rattle.outline_copies.specs.Moved.{moved_by}
 use Rattle.outline_copies.proofs.Bends.{way_stays}
 use Rattle.outline_copies.proofs.Floors.{part_moved}
 use Rattle.outline_copies.proofs.Pieces.{onward}
-use Rattle.outline_copies.proofs.Vertices.{same_way}
 
 -- ---- the curve
 

@@ -1,11 +1,11 @@
 -- The best join of a moved outline.
-use Rattle.std.proofs.Common.{◌≡◌, inl, inr, ℕ, zero, suc, ◌+◌, ◌-◌, ◌<◌, ◌≤◌, ℤ, neg_ℤ, ◌+ℤ◌, Bool, true, false, if◌then◌else◌, nat_eq, Some, List, [], ◌∷◌, length, get_or, map, take, drop, length-drop, sym, ap, ◌∙◌, subst, refl, arith}
+use Rattle.std.proofs.Common.{◌≡◌, inl, inr, ℕ, zero, suc, ◌+◌, ◌-◌, ◌<◌, ◌≤◌, ℤ, neg_ℤ, ◌+ℤ◌, Bool, true, false, if◌then◌else◌, nat_eq, List, [], ◌∷◌, length, get_or, map, take, drop, sym, ap, ◌∙◌, subst, refl, arith}
 use Rattle.std.proofs.lemmas.Int.{ints}
-use Rattle.std.proofs.lemmas.List.{drop-map, get_or-map, length-map, length-take, take-map}
+use Rattle.std.proofs.lemmas.List.{drop-map, get_or-map, length-map, take-map}
 use Rattle.std.proofs.lemmas.List.Elements.{All-head, All-tail}
 use Rattle.std.proofs.lemmas.Option.{get_or_from_slice_get}
 use Rattle.std.proofs.Math.Path.{fun_ext}
-use Rattle.std.specs.List.{All, range_with_len, slice_range}
+use Rattle.std.specs.List.{All, slice_range}
 use Rattle.std.specs.Prelude.{slice_index, slice_index_or}
 use Rattle.pt_core.specs.ClosedWalk.{origin}
 use Rattle.pt_core.specs.declared.piece.Piece.{Piece}
@@ -15,11 +15,11 @@ use Rattle.least_walk.specs.LeastWalk.{IsLeast, IsWalk, Step, steps_from, steps_
 use Rattle.curve_join.specs.Bends.{bends_of}
 use Rattle.curve_join.specs.Choice.{IsBestJoin, MayBeOne, cut_pieces, run_penalty, run_piece}
 use Rattle.curve_join.specs.Join.{MayJoin, joined_piece, penalty_at}
-use Rattle.curve_join.specs.Outline.{Outline, outline}
+use Rattle.curve_join.specs.Outline.{outline}
 use Rattle.curve_join.specs.declared.bend.Bend.{Bend}
 use Rattle.curve_join.proofs.Cutting.{length-bends_of, slice_length, step_there}
 use Rattle.outline_copies.specs.Moved.{moved_by, piece_moved_by}
-use Rattle.outline_copies.proofs.Bends.{bend_moved, bends_moved, outline_moved}
+use Rattle.outline_copies.proofs.Bends.{bend_moved, bends_moved}
 use Rattle.outline_copies.proofs.Lists.{mapped_range}
 use Rattle.outline_copies.proofs.Runs.{joined_moved, may_join_too, penalty_stays}
 
@@ -59,8 +59,10 @@ run_moved right up bends i j =
 may_be_one_too : (right up : ℤ) (tol : ℕ) (bends : List Bend) (i j : ℕ) → MayBeOne tol bends i j → MayBeOne tol (map (bend_moved right up) bends) i j
 may_be_one_too right up tol bends i j (inl next) = inl next
 may_be_one_too right up tol bends i j (inr joined) =
-    inr (omega (arith, joined.0, length-map bends (bend_moved right up)),
-    subst (MayJoin tol) (sym (run_moved right up bends i j)) (may_join_too right up tol (slice_range bends i j) joined.1))
+    inr (
+      omega (arith, joined.0, length-map bends (bend_moved right up)),
+      subst (MayJoin tol) (sym (run_moved right up bends i j)) (may_join_too right up tol (slice_range bends i j) joined.1),
+    )
 
 may_be_one_back : (right up : ℤ) (tol : ℕ) (bends : List Bend) (i j : ℕ) → MayBeOne tol (map (bend_moved right up) bends) i j → MayBeOne tol bends i j
 may_be_one_back right up tol bends i j may =

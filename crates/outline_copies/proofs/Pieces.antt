@@ -1,15 +1,14 @@
 -- The smooth outline of moved vertices.
-use Rattle.std.proofs.Common.{◌≡◌, ℕ, zero, suc, ◌+◌, ◌-◌, ◌<◌, ℤ, pos, ◌+ℤ◌, ◌-ℤ◌, ◌*ℤ◌, Bool, true, false, if◌then◌else◌, List, [], ◌∷◌, length, map, sym, ap, ◌∙◌, refl, arith}
+use Rattle.std.proofs.Common.{◌≡◌, ℕ, ◌+◌, ◌-◌, ◌<◌, ℤ, pos, ◌+ℤ◌, ◌-ℤ◌, ◌*ℤ◌, Bool, true, false, if◌then◌else◌, List, length, map, ap, ◌∙◌, arith}
 use Rattle.std.proofs.lemmas.Int.{ints}
 use Rattle.std.proofs.lemmas.List.{length-map}
 use Rattle.std.specs.List.{range_with_len}
 use Rattle.std.specs.Prelude.{unsigned_abs}
 use Rattle.pt_core.specs.ClosedWalk.{origin, point_at}
 use Rattle.pt_core.specs.Floor.{floor_of}
-use Rattle.pt_core.specs.declared.piece.Piece.{Piece}
 use Rattle.pt_core.specs.declared.piece.Piece.TheVariants.{Corner, Curve}
 use Rattle.pt_core.specs.declared.point.Point.{Point}
-use Rattle.corner_smooth.specs.Corner.{al_of, area_of, control_of, corner_piece, curve_of, grid_distance_of, is_corner, middle_of, part_of, piece_of, pieces_of, sharpness_by, sharpness_of}
+use Rattle.corner_smooth.specs.Corner.{al_of, control_of, corner_piece, curve_of, is_corner, middle_of, part_of, piece_of, pieces_of, sharpness_by, sharpness_of}
 use Rattle.outline_copies.specs.Moved.{moved_by, piece_moved_by}
 use Rattle.outline_copies.proofs.Floors.{half_moved}
 use Rattle.outline_copies.proofs.Lists.{mapped_range, moved_at}

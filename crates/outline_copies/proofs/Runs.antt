@@ -1,6 +1,5 @@
 -- Runs of moved bends.
-use Rattle.std.proofs.Common.{◌≡◌, ℕ, ◌+◌, ◌-◌, ◌*◌, ◌^◌, ◌<◌, ◌≤◌, ℤ, pos, ◌+ℤ◌, ◌-ℤ◌, ◌*ℤ◌, ◌<ℤ◌, ◌≤ℤ◌, List, [], ◌∷◌, length, get_or, map, take, sym, ap, ◌∙◌, subst, refl, arith}
-use Rattle.std.proofs.lemmas.Int.{ints}
+use Rattle.std.proofs.Common.{◌≡◌, ℕ, ◌+◌, ◌-◌, ◌^◌, ◌<◌, ℤ, pos, ◌+ℤ◌, ◌*ℤ◌, ◌<ℤ◌, ◌≤ℤ◌, List, [], ◌∷◌, length, get_or, map, take, sym, ap, ◌∙◌, subst, refl, arith}
 use Rattle.std.proofs.lemmas.List.{get_or-map, length-map, take-map}
 use Rattle.std.proofs.lemmas.List.Elements.{All-map}
 use Rattle.std.proofs.lemmas.List.Folds.{fold-map}
@@ -10,7 +9,7 @@ use Rattle.std.specs.Prelude.{sum_by, unsigned_abs}
 use Rattle.pt_core.specs.declared.point.Point.{Point}
 use Rattle.pt_core.specs.declared.piece.Piece.TheVariants.{Curve}
 use Rattle.curve_join.specs.Cubic.{Encloses, Meet, alpha_of, cross_of_tangents, cubic_of, led, meeting_of, touching_of}
-use Rattle.curve_join.specs.Join.{CoversPiece, FollowsSide, GoesRound, IsNearBy, MayJoin, alpha_at, area_at, area_from, clearance_of, cubic_at, excess_of, first_bend, inner_bends, joined_piece, last_bend, meeting_at, no_bend, not_below_zero, penalty_at, piece_penalty, sense_at, share_of, side_penalty, tangents_at, total_area, touched_from, triangle_at}
+use Rattle.curve_join.specs.Join.{CoversPiece, FollowsSide, GoesRound, IsNearBy, MayJoin, alpha_at, area_at, cubic_at, excess_of, first_bend, inner_bends, joined_piece, last_bend, meeting_at, no_bend, not_below_zero, penalty_at, piece_penalty, sense_at, share_of, side_penalty, tangents_at, total_area, touched_from, triangle_at}
 use Rattle.curve_join.specs.Vector.{GoesNoFarther, dot_of, sense_of, towards, vector_cross, way_of}
 use Rattle.curve_join.specs.declared.bend.Bend.{Bend}
 use Rattle.curve_join.specs.declared.cubic.Cubic.{Cubic}

@@ -1,5 +1,5 @@
 -- The vertices of a moved path.
-use Rattle.std.proofs.Common.{◌≡◌, ℕ, ◌+◌, ◌<◌, ℤ, pos, ◌+ℤ◌, ◌-ℤ◌, ◌*ℤ◌, List, length, get_or, if◌then◌else◌, nat_lt, map, sym, ap, ◌∙◌, subst, arith}
+use Rattle.std.proofs.Common.{◌≡◌, ℕ, ◌+◌, ◌<◌, ℤ, pos, ◌+ℤ◌, ◌-ℤ◌, ◌*ℤ◌, List, length, if◌then◌else◌, nat_lt, map, sym, ap, ◌∙◌, subst, arith}
 use Rattle.std.proofs.lemmas.Int.{ints}
 use Rattle.std.proofs.lemmas.List.{get_or-map, length-map}
 use Rattle.std.proofs.Math.Path.{fun_ext}
@@ -10,7 +10,7 @@ use Rattle.pt_core.specs.declared.point.Point.{Point}
 use Rattle.prefix_moments.specs.Sums.{above_of, rightward_of, sum_over, sums_of}
 use Rattle.prefix_moments.specs.declared.sums.Sums.{Sums}
 use Rattle.vertex_adjust.specs.Line.{IsLine, squares_of}
-use Rattle.vertex_adjust.specs.Vertex.{AreVertices, IsBefore, IsLeast, IsLineOf, IsVertex, IsVertexOf, before_of, distance_of, error_of, moved, segment_end_of}
+use Rattle.vertex_adjust.specs.Vertex.{AreVertices, IsLeast, IsLineOf, IsVertex, IsVertexOf, before_of, distance_of, error_of, moved, segment_end_of}
 use Rattle.vertex_adjust.specs.declared.line.Line.{Line}
 use Rattle.vertex_adjust.specs.declared.shift.Shift.{Shift}
 use Rattle.outline_copies.specs.Moved.{AreMoved, in_units, moved_by}
