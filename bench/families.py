@@ -86,6 +86,20 @@ def cubics(side):
     return lines(side, lambda x: 0.4946 * x + 0.2983 * (2 * x / side - 1) ** 3 + 0.538)
 
 
+def bends(side):
+    """lines as of cubics, of which no two bend alike: by 0.2 to 0.4 pixel"""
+    flat = [0.4946 * x + 0.538 for x in range(side)]
+    cubes = [(2 * x / side - 1) ** 3 for x in range(side)]
+    rows = [bytearray(side) for _ in range(side)]
+    for number in range(2 * side // 4):
+        bend = 0.2 + number * 0.6180339887 % 1 / 5
+        for x in range(side):
+            y = 4 * number - math.floor(flat[x] + bend * cubes[x])
+            for row in rows[max(0, y):max(0, y + 2)]:
+                row[x] = 1
+    return side, side, rows
+
+
 def rings(side):
     """rings round one middle, 2 pixels black and 2 white"""
     middle, most = side / 2 - 0.5, side / 2 - 2
@@ -150,7 +164,7 @@ def noise(side):
 
 
 FAMILIES = {it.__name__: it for it in (
-    diagonal, diagonal3, diagonal8, diagonal1, diamonds, slope2, slope32, golden, arcs, sags, cubics, rings, stadium_bent, nest, holes, checker,
+    diagonal, diagonal3, diagonal8, diagonal1, diamonds, slope2, slope32, golden, arcs, sags, cubics, bends, rings, stadium_bent, nest, holes, checker,
     dots, noise)}
 
 

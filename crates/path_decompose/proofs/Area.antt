@@ -14,9 +14,9 @@ use Rattle.turn_policies.specs.declared.heading.Dir.TheVariants.{North, East, So
 use Rattle.turn_policies.specs.declared.edge.Edge.{Edge}
 use Rattle.turn_policies.specs.Boundary.{IsBoundary, left_pixel, right_pixel}
 use Rattle.turn_policies.proofs.Counting.{sum_below-same, sum_below-add, count_below-sum, sum_below-zero, sum_below-at, sum_below-if}
-use Rattle.path_decompose.specs.Inside.{black_count}
-use Rattle.path_decompose.specs.GridEdges.{GridEdge, upright, level, same_line}
-use Rattle.path_decompose.specs.Inner.GridEdges.{IsLineOn}
+use Rattle.boundary_edges.specs.Inside.{black_count}
+use Rattle.boundary_edges.specs.GridEdges.{GridEdge, upright, level, same_line}
+use Rattle.boundary_edges.specs.Inner.GridEdges.{IsLineOn}
 use Rattle.path_decompose.specs.Inner.Trail.{column_if_up, column_if_down, column_up, column_down}
 use Rattle.path_decompose.specs.Walk.{first_edge}
 use Rattle.path_decompose.proofs.Beyond.{all_lines_on, fits_within, white_off}

@@ -1,14 +1,14 @@
 -- No pixel off the page is inside a path.
-use Rattle.std.proofs.Common.{◌≡◌, ℕ, ◌≤◌, false, List, get_or, All, refl, ap, sym, ◌∙◌, inl, inr, arith}
+use Rattle.std.proofs.Common.{◌≡◌, ℕ, ◌≤◌, false, List, get_or, All, refl, sym, ◌∙◌, inl, inr, arith}
 use Rattle.std.proofs.lemmas.Bool.{cases_Bool, cases_lt, false≢true}
 use Rattle.std.proofs.lemmas.Bool.Decides.{nat_tests}
 use Rattle.pt_core.specs.declared.path.Sign.{Sign}
 use Rattle.pt_core.specs.declared.policy.Policy.{Policy}
-use Rattle.bit_image.specs.Image.{Image, Fits, differ}
+use Rattle.bit_image.specs.Image.{Image, Fits}
 use Rattle.turn_policies.specs.declared.edge.Edge.{Edge}
-use Rattle.path_decompose.specs.GridEdges.{GridEdge, upright, level, is_in_row}
-use Rattle.path_decompose.specs.Inner.GridEdges.{IsLineOn}
-use Rattle.path_decompose.specs.Inside.{is_crossed}
+use Rattle.boundary_edges.specs.GridEdges.{GridEdge, upright, level, is_in_row}
+use Rattle.boundary_edges.specs.Inner.GridEdges.{IsLineOn}
+use Rattle.boundary_edges.specs.Inside.{is_crossed}
 use Rattle.path_decompose.proofs.Parity.{odd_by-agree}
 use Rattle.path_decompose.proofs.EdgeLine.{line_of, inside_edges}
 use Rattle.path_decompose.proofs.Cut.{row_even}
@@ -51,7 +51,3 @@ fits_within b policy sign s es c width height fits = λ x y black. (
 pub white_off : (b : Image) (width height x y : ℕ) → Fits b width height → width ≤ x → b x y ≡ false
 white_off b width height x y fits right =
     elim (cases_Bool (b x y)) [ inl black ↦ let at = fits x y black in absurd (omega arith) | inr white ↦ white ]
-
-pub fits_differ : (b c : Image) (width height : ℕ) → Fits b width height → Fits c width height → Fits (λ x y. differ (b x y) (c x y)) width height
-fits_differ b c width height fb fc = λ x y black.
-    elim (cases_Bool (b x y)) [ inl here ↦ fb x y here | inr white ↦ fc x y (sym (ap (λ p. differ p (c x y)) white) ∙ black) ]

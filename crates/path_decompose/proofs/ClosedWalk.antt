@@ -21,8 +21,8 @@ use Rattle.turn_policies.specs.Majority.{major}
 use Rattle.turn_policies.specs.Turn.{goes_right, next}
 use Rattle.turn_policies.proofs.Turning.{next_boundary, onwards}
 use Rattle.path_decompose.specs.Walk.{IsTrail, start_of}
-use Rattle.path_decompose.specs.Inside.{is_odd}
-use Rattle.path_decompose.specs.Bounds.{IsCornerOf}
+use Rattle.boundary_edges.specs.Inside.{is_odd}
+use Rattle.boundary_edges.specs.Bounds.{IsCornerOf}
 use Rattle.path_decompose.proofs.Parity.{odd_by, odd_by-closed}
 use Rattle.path_decompose.proofs.Orbit.{nth_after, nth_after-keeps, nth_after-mod, run-orbit, get_or-orbit}
 use Rattle.path_decompose.proofs.Round.{IsCircuit, all_boundary}

@@ -11,10 +11,10 @@ use Rattle.turn_policies.specs.declared.edge.Edge.{Edge}
 use Rattle.turn_policies.specs.Heading.{end_x, end_y}
 use Rattle.turn_policies.specs.Boundary.{IsBoundary, left_pixel}
 use Rattle.turn_policies.specs.Turn.{next}
-use Rattle.path_decompose.specs.GridEdges.{GridEdge, upright, level, same_line, is_edge, is_in_row}
+use Rattle.boundary_edges.specs.GridEdges.{GridEdge, upright, level, same_line, is_edge, is_in_row}
 use Rattle.path_decompose.specs.Walk.{IsTrail}
-use Rattle.path_decompose.specs.Inside.{is_crossed}
-use Rattle.path_decompose.proofs.Differ.{differ_swap, differ_solve}
+use Rattle.boundary_edges.specs.Inside.{is_crossed}
+use Rattle.boundary_edges.proofs.Differ.{differ_swap, differ_solve}
 use Rattle.path_decompose.proofs.Parity.{odd_by, odd_by-differ, odd_by-same, odd_by-closed}
 use Rattle.turn_policies.proofs.Turning.{next_boundary}
 use Rattle.path_decompose.proofs.EdgeLine.{step_line, line_of, inside_edges}

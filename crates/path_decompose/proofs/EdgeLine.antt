@@ -10,9 +10,9 @@ use Rattle.turn_policies.specs.declared.edge.Edge.{Edge}
 use Rattle.turn_policies.specs.Heading.{end_x, end_y}
 use Rattle.turn_policies.specs.Boundary.{IsBoundary, left_pixel}
 use Rattle.turn_policies.specs.Turn.{next}
-use Rattle.path_decompose.specs.GridEdges.{GridEdge, upright, level}
+use Rattle.boundary_edges.specs.GridEdges.{GridEdge, upright, level}
 use Rattle.path_decompose.specs.Walk.{IsTrail, start_of}
-use Rattle.path_decompose.specs.Inside.{line_at, line_between, lines_to, lines_of, is_crossed, inside}
+use Rattle.boundary_edges.specs.Inside.{line_at, line_between, lines_to, lines_of, is_crossed, inside}
 use Rattle.path_decompose.proofs.Parity.{odd_by, is_odd-count}
 use Rattle.turn_policies.proofs.Turning.{next_boundary}
 

@@ -9,9 +9,9 @@ use Rattle.turn_policies.specs.declared.heading.Dir.TheVariants.{North, East, So
 use Rattle.turn_policies.specs.declared.edge.Edge.{Edge}
 use Rattle.turn_policies.specs.Majority.{black_in_ring, white_in_ring, major}
 use Rattle.turn_policies.specs.Turn.{next}
-use Rattle.path_decompose.specs.GridEdges.{upright, level, is_edge}
+use Rattle.boundary_edges.specs.GridEdges.{upright, level, is_edge}
 use Rattle.path_decompose.specs.Walk.{start_of, first_edge, IsTrail}
-use Rattle.path_decompose.specs.Inside.{lines_of, inside, black_count}
+use Rattle.boundary_edges.specs.Inside.{lines_of, inside, black_count}
 use Rattle.path_decompose.specs.Decomposition.{inverted}
 
 abbrev edge : ℕ → ℕ → Dir → Edge

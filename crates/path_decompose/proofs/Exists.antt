@@ -13,7 +13,7 @@ use Rattle.turn_policies.specs.declared.heading.Dir.TheVariants.{North, East, So
 use Rattle.turn_policies.specs.declared.edge.Edge.{Edge}
 use Rattle.turn_policies.specs.Turn.{next}
 use Rattle.path_decompose.specs.Walk.{IsBoundaryWalk, first_edge, start_of}
-use Rattle.path_decompose.specs.Inside.{inside, black_count}
+use Rattle.boundary_edges.specs.Inside.{inside, black_count}
 use Rattle.path_decompose.specs.Decomposition.{sign_at, inverted, IsNextPath, IsDecomposed, IsDecomposition}
 use Rattle.path_decompose.specs.Inner.Start.{IsStart}
 use Rattle.path_decompose.proofs.Orbit.{nth_after, orbit, NoReturn}

@@ -1,4 +1,3 @@
-pub mod Differ
 pub mod Parity
 pub mod Orbit
 pub mod EdgeLine
@@ -15,8 +14,8 @@ pub mod Sums
 pub mod Unique
 pub mod Exists
 pub mod ClosedWalk
+pub mod WalkLines
 pub mod Steps
-pub mod Corners
 pub mod Prefix
 pub mod Above
 pub mod PathOn
@@ -26,13 +25,7 @@ pub mod Sides
 pub mod Area
 pub mod Noted
 pub mod Runs
-pub mod Spread
-pub mod EdgeBits
-pub mod EdgeTaken
-pub mod LineSpots
-pub mod CornerSpots
-pub mod Straight
-pub mod Taken
-pub mod EightPixels
-pub mod Bounded
 mod Examples
+-- The laws of differences, and the lines from a corner of a path on.
+pub use Rattle.boundary_edges.proofs.Differ
+pub use Rattle.boundary_edges.proofs.Corners

@@ -4,16 +4,16 @@ use Rattle.pt_core.specs.declared.path.Path.{Path}
 use Rattle.pt_core.specs.declared.policy.Policy.{Policy}
 use Rattle.bit_image.specs.Image.{Image, Fits, differ}
 use Rattle.bit_image.specs.Page.{Page}
-use Rattle.path_decompose.specs.GridEdges.{GridEdge, is_edge, same_line}
+use Rattle.boundary_edges.specs.GridEdges.{GridEdge, is_edge, same_line}
+use Rattle.boundary_edges.specs.Inside.{lines_of, inside}
+use Rattle.boundary_edges.proofs.Differ.{fits_differ}
 use Rattle.path_decompose.specs.Walk.{first_edge}
-use Rattle.path_decompose.specs.Inside.{lines_of, inside}
 use Rattle.path_decompose.specs.Decomposition.{inverted, IsNextPath}
 use Rattle.path_decompose.proofs.Parity.{odd_by}
 use Rattle.path_decompose.proofs.EdgeLine.{line_of, inside_edges}
 use Rattle.path_decompose.proofs.Cut.{is_edge-inside_edges, is_edge-differ}
 use Rattle.path_decompose.proofs.Round.{IsCircuit}
 use Rattle.path_decompose.proofs.Walked.{walk_circuit, walk_lines, walk_inside, walk_fits}
-use Rattle.path_decompose.proofs.Beyond.{fits_differ}
 
 pub next_circuit : (page : Page) (policy : Policy) (b : Image) (path : Path) → (n : IsNextPath page policy b path) → IsCircuit b policy path.sign (first_edge n.x n.y) n.walk.edges
 next_circuit page policy b path n = walk_circuit b policy path.sign n.x n.y path.points n.first n.walk

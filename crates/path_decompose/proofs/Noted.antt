@@ -14,7 +14,7 @@ use Rattle.turn_policies.specs.declared.heading.Dir.{Dir}
 use Rattle.turn_policies.specs.declared.heading.Dir.TheVariants.{North, East, South, West}
 use Rattle.turn_policies.specs.declared.edge.Edge.{Edge}
 use Rattle.turn_policies.specs.Turn.{next}
-use Rattle.path_decompose.specs.Inside.{inside, black_count}
+use Rattle.boundary_edges.specs.Inside.{inside, black_count}
 use Rattle.path_decompose.specs.Inner.Trail.{column_if_up, column_if_down, column_up, column_down}
 use Rattle.path_decompose.specs.Walk.{first_edge, start_of, IsBoundaryWalk}
 use Rattle.path_decompose.proofs.Area.{circuit_area}

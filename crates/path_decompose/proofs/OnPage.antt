@@ -14,7 +14,7 @@ use Rattle.turn_policies.specs.declared.heading.Dir.TheVariants.{North, East, So
 use Rattle.turn_policies.specs.declared.edge.Edge.{Edge}
 use Rattle.turn_policies.specs.Heading.{end_x, end_y}
 use Rattle.turn_policies.specs.Boundary.{IsBoundary, left_pixel, right_pixel}
-use Rattle.path_decompose.specs.Inner.GridEdges.{IsLineOn}
+use Rattle.boundary_edges.specs.Inner.GridEdges.{IsLineOn}
 use Rattle.path_decompose.proofs.EdgeLine.{step_line}
 
 -- a step and its line stay on the page

@@ -10,7 +10,7 @@ use Rattle.turn_policies.specs.declared.heading.Dir.{Dir}
 use Rattle.turn_policies.specs.declared.heading.Dir.TheVariants.{North, East, South, West}
 use Rattle.turn_policies.specs.declared.edge.Edge.{Edge}
 use Rattle.turn_policies.specs.Boundary.{IsBoundary, left_pixel, right_pixel}
-use Rattle.path_decompose.specs.GridEdges.{GridEdge, upright, level, same_line, is_edge}
+use Rattle.boundary_edges.specs.GridEdges.{GridEdge, upright, level, same_line, is_edge}
 use Rattle.path_decompose.proofs.Parity.{odd_by}
 use Rattle.path_decompose.proofs.EdgeLine.{step_line, line_of}
 use Rattle.path_decompose.proofs.Round.{IsCircuit, all_boundary}

@@ -8,8 +8,8 @@ use Rattle.std.proofs.lemmas.List.Sorted.{sum_by-IsPermutation}
 use Rattle.bit_image.specs.Image.{differ}
 use Rattle.turn_policies.specs.declared.edge.Edge.{Edge}
 use Rattle.path_decompose.specs.Walk.{IsTrail}
-use Rattle.path_decompose.specs.Inside.{is_odd}
-use Rattle.path_decompose.proofs.Differ.{differ_same, differ_link, differ_swap}
+use Rattle.boundary_edges.specs.Inside.{is_odd}
+use Rattle.boundary_edges.proofs.Differ.{differ_same, differ_link, differ_swap}
 
 -- an odd number of elements pass
 abbrev pub odd_by : {A : Type 0} → (A → Bool) → List A → Bool

@@ -10,8 +10,8 @@ use Rattle.pt_core.specs.declared.limits.TheConstants.{LONGEST_SIDE}
 use Rattle.bit_image.specs.Image.{Image, Fits}
 use Rattle.bit_image.specs.Page.{Page, IsPage, image_of}
 use Rattle.bit_image.proofs.Pages.{Fits-page}
-use Rattle.path_decompose.specs.Bounds.{IsCornerOf}
-use Rattle.path_decompose.specs.Inner.Bounds.{IsPathOn}
+use Rattle.boundary_edges.specs.Bounds.{IsCornerOf}
+use Rattle.boundary_edges.specs.Inner.Bounds.{IsPathOn}
 use Rattle.path_decompose.specs.Decomposition.{inverted, IsNextPath, IsDecomposed, IsDecomposition}
 use Rattle.path_decompose.specs.Walk.{start_of, first_edge}
 use Rattle.path_decompose.proofs.ClosedWalk.{closed_walk, corners, point_of_round}

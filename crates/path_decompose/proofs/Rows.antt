@@ -1,18 +1,18 @@
 -- A closed walk has an even number of upright lines in each row, since it changes sides of the row at each.
-use Rattle.std.proofs.Common.{◌≡◌, ℕ, zero, suc, ◌+◌, ◌%◌, ◌<◌, Bool, false, ℤ, pos, negsuc, ◌≤ℤ◌, nat_abs, nat_eq, nat_lt, min, cond, ◌⊎◌, List, [], ◌∷◌, length, get_or, drop, All, count_by, refl, ap, sym, subst, ◌∙◌, inl, inr, arith}
+use Rattle.std.proofs.Common.{◌≡◌, ℕ, zero, suc, ◌+◌, ◌%◌, ◌<◌, Bool, false, nat_abs, nat_eq, nat_lt, min, cond, ◌⊎◌, List, [], ◌∷◌, length, get_or, drop, All, count_by, refl, ap, sym, subst, ◌∙◌, inl, inr, arith}
 use Rattle.std.proofs.Math.Seq.{drop-cons}
 use Rattle.std.proofs.Math.Nat.{mod-eq_of_lt, mod-lt, mod_self}
 use Rattle.std.proofs.lemmas.Bool.{eq-eqb, ne_eqb}
 use Rattle.std.proofs.lemmas.Bool.Decides.{nat_tests}
-use Rattle.std.proofs.lemmas.Int.{ints}
 use Rattle.std.proofs.lemmas.List.{drop_all}
-use Rattle.pt_core.specs.ClosedWalk.{origin, point_at, IsNextTo, IsUnitStep, IsClosedWalk}
+use Rattle.pt_core.specs.ClosedWalk.{origin, point_at, IsUnitStep, IsClosedWalk}
 use Rattle.pt_core.specs.declared.point.Point.{Point}
 use Rattle.bit_image.specs.Image.{differ}
-use Rattle.path_decompose.specs.Bounds.{IsCornerOf}
-use Rattle.path_decompose.specs.Inside.{line_at, line_between, lines_to, lines_of, is_odd}
-use Rattle.path_decompose.specs.GridEdges.{GridEdge, upright, level, is_in_row}
-use Rattle.path_decompose.proofs.Differ.{differ-false, differ_same, differ_link}
+use Rattle.boundary_edges.specs.Bounds.{IsCornerOf}
+use Rattle.boundary_edges.specs.Inside.{line_at, line_between, lines_to, lines_of, is_odd}
+use Rattle.boundary_edges.specs.GridEdges.{GridEdge, upright, level, is_in_row}
+use Rattle.boundary_edges.proofs.Differ.{differ-false, differ_same, differ_link}
+use Rattle.boundary_edges.proofs.LineSpots.{next_natural}
 use Rattle.path_decompose.proofs.Parity.{odd_by, is_odd-count}
 
 -- along a row the walk stays on one side
@@ -33,12 +33,6 @@ upwards y a c b d same next =
 
     back : (y b d : ℕ) → d ≡ suc b → nat_eq (min b d) y ≡ differ (nat_lt y b) (nat_lt y d)
     back y b d e = grind (arith, nat_tests)
-
-pub next_natural : (a c : ℤ) → pos 0 ≤ℤ a → pos 0 ≤ℤ c → IsNextTo a c → (nat_abs a ≡ suc (nat_abs c)) ⊎ (nat_abs c ≡ suc (nat_abs a))
-next_natural (pos a) (pos c) ha hc (inl right) = inr (omega (arith, ints))
-next_natural (pos a) (pos c) ha hc (inr left) = inl (omega (arith, ints))
-next_natural (negsuc a) c ha hc next = absurd (omega (arith, ints))
-next_natural (pos a) (negsuc c) ha hc next = absurd (omega (arith, ints))
 
 unit_line : (y width height : ℕ) (p q : Point) → IsCornerOf width height p → IsCornerOf width height q → IsUnitStep p q → is_in_row y (line_between p q) ≡ differ (nat_lt y (nat_abs p.y)) (nat_lt y (nat_abs q.y))
 unit_line y width height p q hp hq (inl along) =

@@ -9,9 +9,9 @@ use Rattle.bit_image.specs.Image.{Image, south_west, differ}
 use Rattle.bit_image.specs.FirstBlack.{IsFirstBlack}
 use Rattle.turn_policies.specs.declared.edge.Edge.{Edge}
 use Rattle.turn_policies.specs.Turn.{next}
-use Rattle.path_decompose.specs.GridEdges.{GridEdge, upright, level, same_line, is_edge}
+use Rattle.boundary_edges.specs.GridEdges.{GridEdge, upright, level, same_line, is_edge}
 use Rattle.path_decompose.specs.Walk.{IsTrail, first_edge}
-use Rattle.path_decompose.specs.Inside.{is_crossed}
+use Rattle.boundary_edges.specs.Inside.{is_crossed}
 use Rattle.path_decompose.proofs.Parity.{odd_by, odd_by-agree}
 use Rattle.path_decompose.proofs.EdgeLine.{line_of, inside_edges}
 use Rattle.path_decompose.proofs.Round.{IsCircuit, all_boundary}

@@ -5,12 +5,12 @@ use Rattle.pt_core.specs.declared.path.Path.{Path}
 use Rattle.pt_core.specs.declared.policy.Policy.{Policy}
 use Rattle.bit_image.specs.Image.{Image, IsWhite, differ}
 use Rattle.bit_image.specs.Page.{Page}
-use Rattle.path_decompose.specs.GridEdges.{GridEdge, upright, level, same_line, is_edge}
+use Rattle.boundary_edges.specs.GridEdges.{GridEdge, upright, level, same_line, is_edge}
 use Rattle.path_decompose.specs.Walk.{first_edge}
-use Rattle.path_decompose.specs.Inside.{lines_of, inside}
+use Rattle.boundary_edges.specs.Inside.{lines_of, inside}
 use Rattle.path_decompose.specs.Decomposition.{inverted, IsNextPath, IsDecomposed}
 use Rattle.path_decompose.specs.AllPaths.{IsEvenOdd, IsEdgesOnce}
-use Rattle.path_decompose.proofs.Differ.{differ_back}
+use Rattle.boundary_edges.proofs.Differ.{differ_back}
 use Rattle.path_decompose.proofs.Parity.{odd_by, is_odd-count}
 use Rattle.path_decompose.proofs.EdgeLine.{line_of}
 use Rattle.path_decompose.proofs.Once.{count_by-line, odd_by-no_edge}

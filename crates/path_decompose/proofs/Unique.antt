@@ -9,7 +9,7 @@ use Rattle.bit_image.specs.Image.{Image}
 use Rattle.bit_image.specs.Page.{Page, image_of}
 use Rattle.bit_image.specs.FirstBlack.{IsFirstBlack}
 use Rattle.path_decompose.specs.Walk.{start_of, first_edge}
-use Rattle.path_decompose.specs.Inside.{inside, black_count}
+use Rattle.boundary_edges.specs.Inside.{inside, black_count}
 use Rattle.path_decompose.specs.Decomposition.{sign_at, inverted, IsNextPath, IsDecomposed}
 use Rattle.path_decompose.proofs.Round.{IsCircuit, one_circuit}
 use Rattle.path_decompose.proofs.NextPath.{next_circuit}

@@ -8,10 +8,10 @@ use Rattle.pt_core.specs.declared.path.Sign.{Sign}
 use Rattle.pt_core.specs.declared.policy.Policy.{Policy}
 use Rattle.bit_image.specs.Image.{Image, Fits, differ}
 use Rattle.bit_image.specs.FirstBlack.{IsFirstBlack}
-use Rattle.path_decompose.specs.Inner.GridEdges.{IsLineOn}
-use Rattle.path_decompose.specs.GridEdges.{is_in_row}
+use Rattle.boundary_edges.specs.Inner.GridEdges.{IsLineOn}
+use Rattle.boundary_edges.specs.GridEdges.{is_in_row}
 use Rattle.path_decompose.specs.Walk.{first_edge, IsBoundaryWalk}
-use Rattle.path_decompose.specs.Inside.{lines_of, is_crossed, is_odd, inside}
+use Rattle.boundary_edges.specs.Inside.{lines_of, is_crossed, is_odd, inside}
 use Rattle.path_decompose.specs.Inner.Start.{IsWhiteThrough}
 use Rattle.path_decompose.proofs.EdgeLine.{line_of, lines_of-run, inside_edges, inside-run}
 use Rattle.path_decompose.proofs.Round.{IsCircuit, circuit_of}

@@ -2,8 +2,8 @@
 use Rattle.std.specs.Prelude.{◌≡◌, ℕ, cond, List, count_by, sum_by}
 use Rattle.pt_core.specs.declared.path.Path.{Path}
 use Rattle.bit_image.specs.Image.{Image}
-use Rattle.path_decompose.specs.GridEdges.{GridEdge, same_line, is_edge}
-use Rattle.path_decompose.specs.Inside.{lines_of, is_odd, inside}
+use Rattle.boundary_edges.specs.GridEdges.{GridEdge, same_line, is_edge}
+use Rattle.boundary_edges.specs.Inside.{lines_of, is_odd, inside}
 
 -- a pixel is black exactly where it is inside an odd number of the paths
 abbrev pub IsEvenOdd : Image → List Path → Type 0

@@ -10,7 +10,7 @@ use Rattle.bit_image.specs.Image.{Image, IsWhite, differ}
 use Rattle.bit_image.specs.Page.{Page, image_of}
 use Rattle.bit_image.specs.FirstBlack.{IsFirstBlack}
 use Rattle.path_decompose.specs.Walk.{IsBoundaryWalk}
-use Rattle.path_decompose.specs.Inside.{inside, black_count}
+use Rattle.boundary_edges.specs.Inside.{inside, black_count}
 
 -- the sign of a path that starts at pixel (x, y): plus where the page is black there
 abbrev pub sign_at : Image → ℕ → ℕ → Sign

@@ -1,9 +1,6 @@
 -- What inner contracts alone speak of: no promise rests on it.
-pub mod Blocks
-pub mod BoundaryBits
-pub mod Bounds
 pub mod Decomposition
-pub mod GridEdges
 pub mod Start
 pub mod Trail
-pub mod Taken
+pub use Rattle.boundary_edges.specs.Inner.GridEdges
+pub use Rattle.boundary_edges.specs.Inner.Bounds

@@ -6,11 +6,9 @@ ghost use Rattle.turn_policies.specs.Boundary.{left_pixel, right_pixel};
 ghost use Rattle.turn_policies.specs.Heading.{opposite_of};
 ghost use Rattle.turn_policies.specs.Majority.{major};
 ghost use Rattle.turn_policies.specs.Turn.{goes_right, turn};
-ghost use Rattle.path_decompose.specs.Inner.BoundaryBits.{IsSpotAt};
+ghost use Rattle.boundary_edges.specs.Inner.BoundaryBits.{IsSpotAt};
 
-use crate::edges::Edges;
-use crate::layout::Layout;
-use crate::strips::Spot;
+use boundary_edges::{Edges, Layout, Spot};
 use pt_core::{Policy, Sign};
 use turn_policies::{Dir, asks_majority, goes_right, major_in};
 

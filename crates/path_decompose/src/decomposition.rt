@@ -4,19 +4,19 @@ ghost use Rattle.pt_core.specs.ClosedWalk.{point_at, IsClosedWalk};
 ghost use Rattle.bit_image.specs.FirstBlack.{IsFirstBlack};
 ghost use Rattle.bit_image.specs.Image.{Fits};
 ghost use Rattle.bit_image.specs.Page.{SameSides, image_of};
-ghost use Rattle.path_decompose.specs.Bounds.{IsCornerOf};
-ghost use Rattle.path_decompose.specs.Inner.Bounds.{IsPathOn};
+ghost use Rattle.boundary_edges.specs.Bounds.{IsCornerOf};
+ghost use Rattle.boundary_edges.specs.Inner.Bounds.{IsPathOn};
 ghost use Rattle.path_decompose.specs.Inner.Decomposition.{above, is_large, path_of};
 ghost use Rattle.path_decompose.specs.Decomposition.{kept, sign_at, inverted, IsNextPath, IsDecomposition};
-ghost use Rattle.path_decompose.specs.Inside.{inside};
+ghost use Rattle.boundary_edges.specs.Inside.{inside};
 ghost use Rattle.path_decompose.specs.Inner.Start.{IsWhiteThrough, IsStart};
 ghost use Rattle.path_decompose.specs.AllPaths.{IsEvenOdd, IsEdgesOnce};
 ghost use Rattle.pt_core.specs.declared.path.Path.{Path};
 
-use crate::edges::Edges;
 use crate::trail::Trail;
 use crate::walk::walk_round;
 use bit_image::Bitmap;
+use boundary_edges::Edges;
 use pt_core::{NoMemory, Path, Policy, Sequence, Sign};
 use std::alloc::Global;
 

@@ -1,8 +1,8 @@
 //! The pixels inside a path.
 ghost use Rattle.std.specs.Prelude.{◌≡◌, All};
 ghost use Rattle.pt_core.specs.ClosedWalk.{IsClosedWalk};
-ghost use Rattle.path_decompose.specs.Bounds.{IsCornerOf};
-ghost use Rattle.path_decompose.specs.Inside.{line_between, is_crossed, inside};
+ghost use Rattle.boundary_edges.specs.Bounds.{IsCornerOf};
+ghost use Rattle.boundary_edges.specs.Inside.{line_between, is_crossed, inside};
 
 use crate::line::upright_between;
 use pt_core::{Path, Point};

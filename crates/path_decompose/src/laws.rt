@@ -6,10 +6,10 @@ ghost use Rattle.pt_core.specs.declared.point.Point.{Point};
 ghost use Rattle.pt_core.specs.declared.policy.Policy.{Policy};
 ghost use Rattle.bit_image.specs.Image.{Fits};
 ghost use Rattle.bit_image.specs.Page.{Page, IsPage, image_of};
-ghost use Rattle.path_decompose.specs.Bounds.{IsCornerOf};
+ghost use Rattle.boundary_edges.specs.Bounds.{IsCornerOf};
 ghost use Rattle.path_decompose.specs.Decomposition.{IsDecomposition};
-ghost use Rattle.path_decompose.specs.Inside.{lines_of, is_odd, inside, black_count};
-ghost use Rattle.path_decompose.specs.GridEdges.{is_in_row};
+ghost use Rattle.boundary_edges.specs.Inside.{lines_of, is_odd, inside, black_count};
+ghost use Rattle.boundary_edges.specs.GridEdges.{is_in_row};
 ghost use Rattle.path_decompose.specs.AllPaths.{IsEvenOdd, IsEdgesOnce};
 
 /// A page has at most one decomposition under a policy.

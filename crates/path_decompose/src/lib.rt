@@ -4,7 +4,7 @@
 //! pixel's left side, and follows the edges between black and white pixels until it comes to its
 //! first edge again. The pixels inside are then inverted, and the next path starts from what is
 //! black now, until the page is white. Nothing is inverted pixel by pixel: what is left is held as
-//! the edges between black and white pixels, and each path takes its own away.
+//! the edges between black and white pixels (`boundary_edges`), and each path takes its own away.
 //!
 //! ```rust
 //! use path_decompose::decompose_above;
@@ -17,18 +17,12 @@
 //! ```
 #![tactic(auto)]
 
-mod blocks;
 mod corner;
 pub mod decomposition;
-mod edges;
 pub mod interior;
 pub mod laws;
-mod layout;
 pub mod line;
 pub mod speckle;
-mod square;
-mod strips;
-mod taking;
 mod trail;
 mod walk;
 

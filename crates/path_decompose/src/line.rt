@@ -1,7 +1,7 @@
 //! The lines between the corners of a path.
 ghost use Rattle.std.specs.Prelude.{◌≡◌};
-ghost use Rattle.path_decompose.specs.Inside.{line_between};
-ghost use Rattle.path_decompose.specs.Inner.GridEdges.{place_of};
+ghost use Rattle.boundary_edges.specs.Inside.{line_between};
+ghost use Rattle.boundary_edges.specs.Inner.GridEdges.{place_of};
 
 use pt_core::Point;
 

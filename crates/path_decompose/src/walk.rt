@@ -2,18 +2,16 @@
 ghost use Rattle.std.specs.Prelude.{◌≡◌, ◌≢◌, true, false, not, ℕ, ◌+◌, ◌∷◌, [], IfOk, OnOk, MatchBool, ◌^◌, ◌<◌};
 ghost use Rattle.bit_image.specs.FirstBlack.{IsFirstBlack};
 ghost use Rattle.bit_image.specs.Page.{image_of};
-ghost use Rattle.path_decompose.specs.Inside.{inside, black_count};
-ghost use Rattle.path_decompose.specs.Inner.BoundaryBits.{IsSpotAt};
+ghost use Rattle.boundary_edges.specs.Inside.{inside, black_count};
+ghost use Rattle.boundary_edges.specs.Inner.BoundaryBits.{IsSpotAt};
 ghost use Rattle.path_decompose.specs.Inner.Trail.{is_upright, edge_from, AreSumsBelow, AreNoted, IsStraightRun};
 ghost use Rattle.path_decompose.specs.Walk.{first_edge, IsBoundaryWalk};
 ghost use Rattle.turn_policies.specs.Boundary.{IsBoundary};
 ghost use Rattle.turn_policies.specs.Turn.{next};
 
 use crate::corner::turned_at;
-use crate::edges::Edges;
-use crate::layout::Layout;
-use crate::strips::Spot;
 use crate::trail::Trail;
+use boundary_edges::{Edges, Layout, Spot};
 use pt_core::{NoMemory, Point, Policy, Sign};
 use turn_policies::{Dir, Edge};
 

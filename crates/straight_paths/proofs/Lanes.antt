@@ -5,23 +5,23 @@ use Rattle.pt_core.specs.ClosedWalk.{IsClosedWalk, point_at}
 use Rattle.pt_core.specs.declared.point.Point.{Point}
 use Rattle.pt_core.proofs.Terms.{same_value}
 use Rattle.pt_core.proofs.Terms.Term.{num, plus, less, times, opposite}
-use Rattle.straight_paths.specs.Straight.{vector_of}
-use Rattle.straight_paths.specs.Cones.{cross_of}
-use Rattle.straight_paths.specs.Inner.Codes.{GoesByOne}
-use Rattle.straight_paths.specs.Inner.Cones.{to_left_of, rise_of}
-use Rattle.straight_paths.specs.Inner.Strips.{IsAcrossBefore, IsWiderLane, seen_of, with_across}
+use Rattle.path_cones.specs.Straight.{vector_of}
+use Rattle.path_cones.specs.Cones.{cross_of}
+use Rattle.path_cones.specs.Inner.Codes.{GoesByOne}
+use Rattle.path_cones.specs.Inner.Cones.{to_left_of, rise_of}
+use Rattle.path_cones.specs.Inner.Strips.{IsAcrossBefore, IsWiderLane, seen_of, with_across}
 use Rattle.straight_paths.specs.Inner.Sweeps.{IsSeen}
-use Rattle.straight_paths.specs.Inner.Tails.{IsIndexOf, IsSooner, IsSoonerOnward, back_in_column, back_in_row, both_back_of, by_direction, limit_of, with_onward}
-use Rattle.straight_paths.specs.Inner.Wedges.{GoesOnward, IsQuarter, IsSign, diagonal_of, far_of}
-use Rattle.straight_paths.specs.declared.quarter.Quarter.{Quarter}
-use Rattle.straight_paths.specs.declared.strip.Lane.{Lane}
-use Rattle.straight_paths.specs.declared.strip.Strip.{Strip}
-use Rattle.straight_paths.specs.declared.tail.Ahead.{Ahead}
-use Rattle.straight_paths.specs.declared.tail.NextOnward.{NextOnward}
-use Rattle.straight_paths.specs.declared.vector.Vector.{Vector}
-use Rattle.straight_paths.proofs.Coding.{goes_by_one}
+use Rattle.path_cones.specs.Inner.Tails.{IsIndexOf, IsSooner, IsSoonerOnward, back_in_column, back_in_row, both_back_of, by_direction, limit_of, with_onward}
+use Rattle.path_cones.specs.Inner.Wedges.{GoesOnward, IsQuarter, IsSign, diagonal_of, far_of}
+use Rattle.path_cones.specs.declared.quarter.Quarter.{Quarter}
+use Rattle.path_cones.specs.declared.strip.Lane.{Lane}
+use Rattle.path_cones.specs.declared.strip.Strip.{Strip}
+use Rattle.path_cones.specs.declared.tail.Ahead.{Ahead}
+use Rattle.path_cones.specs.declared.tail.NextOnward.{NextOnward}
+use Rattle.path_cones.specs.declared.vector.Vector.{Vector}
+use Rattle.path_cones.proofs.Coding.{goes_by_one}
 use Rattle.straight_paths.proofs.Runs.{behind_of_four, seen_by, seen_by_step}
-use Rattle.straight_paths.proofs.Stepping.{onward_strip}
+use Rattle.path_cones.proofs.Stepping.{onward_strip}
 
 -- ---- numbers of points
 

@@ -3,19 +3,19 @@ use Rattle.std.proofs.Common.{◌≡◌, ◌≢◌, inl, inr, ℕ, ◌+◌, ◌-
 use Rattle.std.proofs.lemmas.Int.{ints}
 use Rattle.pt_core.specs.ClosedWalk.{IsClosedWalk, point_at}
 use Rattle.pt_core.specs.declared.point.Point.{Point}
-use Rattle.straight_paths.specs.Straight.{path_from, vector_of}
-use Rattle.straight_paths.specs.Inner.Strips.{IsEarlierStrip, StaysIn, TakesStep}
+use Rattle.path_cones.specs.Straight.{path_from, vector_of}
+use Rattle.path_cones.specs.Inner.Strips.{IsEarlierStrip, StaysIn, TakesStep}
 use Rattle.straight_paths.specs.Inner.Sweeps.{IsEnd, IsSeen}
-use Rattle.straight_paths.specs.Inner.Tails.{IsClearBefore, IsIndexOf, IsSooner, IsTail, back_in_column, back_in_row, both_back_of, limit_of}
-use Rattle.straight_paths.specs.Inner.Wedges.{GoesOnward, IsQuarter, IsSign}
-use Rattle.straight_paths.specs.declared.quarter.Quarter.{Quarter}
-use Rattle.straight_paths.specs.declared.strip.Strip.{Strip}
+use Rattle.path_cones.specs.Inner.Tails.{IsClearBefore, IsIndexOf, IsSooner, IsTail, back_in_column, back_in_row, both_back_of, limit_of}
+use Rattle.path_cones.specs.Inner.Wedges.{GoesOnward, IsQuarter, IsSign}
+use Rattle.path_cones.specs.declared.quarter.Quarter.{Quarter}
+use Rattle.path_cones.specs.declared.strip.Strip.{Strip}
 use Rattle.straight_paths.specs.declared.sweep.Seen.{Seen}
-use Rattle.straight_paths.specs.declared.tail.Ahead.{Ahead}
-use Rattle.straight_paths.specs.declared.vector.Vector.{Vector}
-use Rattle.straight_paths.proofs.Ahead.{ahead_again, ahead_earlier, all_no_sooner, four_taken, some_sooner, sooner_again}
-use Rattle.straight_paths.proofs.Ends.{clear_seen, tail_earlier, to_all}
-use Rattle.straight_paths.proofs.Staying.{stays_clear, stays_earlier, stays_shorter}
+use Rattle.path_cones.specs.declared.tail.Ahead.{Ahead}
+use Rattle.path_cones.specs.declared.vector.Vector.{Vector}
+use Rattle.path_cones.proofs.Sooner.{ahead_again, ahead_earlier, all_no_sooner, four_taken, some_sooner, sooner_again}
+use Rattle.path_cones.proofs.Ends.{clear_seen, tail_earlier, to_all}
+use Rattle.path_cones.proofs.Staying.{stays_clear, stays_earlier, stays_shorter}
 use Rattle.straight_paths.proofs.Windows.{end_of_seen, seen_earlier}
 
 -- a tail that ends there, and a strip

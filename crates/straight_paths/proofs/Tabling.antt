@@ -2,16 +2,16 @@
 use Rattle.std.proofs.Common.{◌≡◌, ◌⊎◌, ℕ, suc, ◌+◌, ◌-◌, ◌*◌, ◌/◌, ◌%◌, ◌<◌, ◌≤◌, inl, inr, Option, None, Some, IfSome, length, get_or, sym, ◌∙◌, ap, subst, arith}
 use Rattle.std.proofs.lemmas.Bool.{cases_lt}
 use Rattle.pt_core.specs.declared.point.Point.{Point}
-use Rattle.straight_paths.specs.Inner.Codes.{IsCoded, coded_step}
-use Rattle.straight_paths.specs.Corners.{step_from}
-use Rattle.straight_paths.specs.Inner.Cones.{IsSound}
+use Rattle.path_cones.specs.Inner.Codes.{IsCoded, coded_step}
+use Rattle.path_cones.specs.Corners.{step_from}
+use Rattle.path_cones.specs.Inner.Cones.{IsSound}
 use Rattle.straight_paths.specs.Inner.Courses.{HasCourse, IsCourse, cone_of, no_course}
-use Rattle.straight_paths.specs.Straight.{IsStraight}
+use Rattle.path_cones.specs.Straight.{IsStraight}
 use Rattle.straight_paths.specs.Inner.Tables.{GrowsInto, IsWordTable, StandsFor, KeepsWords, LeadsToWord, count_at, course_at, digits_at}
 use Rattle.straight_paths.specs.Inner.NextSteps.{IsStraightUpTo, TellsFront, TellsNext}
 use Rattle.straight_paths.specs.declared.course.Course.{Course}
 use Rattle.straight_paths.specs.declared.table.Table.{Table}
-use Rattle.straight_paths.proofs.Pieces.{none_is_straight, rest_of, shorter, without_first}
+use Rattle.path_cones.proofs.Pieces.{none_is_straight, rest_of, shorter, without_first}
 
 pub keeps_same : (old new : Table) → new.used ≡ old.used → new.counts.items ≡ old.counts.items → new.digits.items ≡ old.digits.items
     → new.courses.items ≡ old.courses.items → KeepsWords old new

@@ -3,21 +3,21 @@ use Rattle.std.proofs.Common.{◌≡◌, ◌⊎◌, ℕ, zero, suc, ◌+◌, ◌
 use Rattle.std.proofs.lemmas.Bool.{cases_lt}
 use Rattle.pt_core.specs.ClosedWalk.{point_at}
 use Rattle.pt_core.specs.declared.point.Point.{Point}
-use Rattle.straight_paths.specs.Inner.Codes.{IsCoded, coded_step}
-use Rattle.straight_paths.specs.Inner.Cones.{IsClear}
-use Rattle.straight_paths.specs.Straight.{IsStraight, path_from, vector_of}
-use Rattle.straight_paths.specs.Inner.Strips.{HoldsPath}
+use Rattle.path_cones.specs.Inner.Codes.{IsCoded, coded_step}
+use Rattle.path_cones.specs.Inner.Cones.{IsClear}
+use Rattle.path_cones.specs.Straight.{IsStraight, path_from, vector_of}
+use Rattle.path_cones.specs.Inner.Strips.{HoldsPath}
 use Rattle.straight_paths.specs.Inner.Sweeps.{AreEndsFrom, IsEnd, IsEnough, IsSeen, IsTold, IsStraightBefore}
 use Rattle.straight_paths.specs.Inner.Tables.{GrowsInto, IsWordTable, LeadsToWord, StandsFor, count_at, digits_at}
-use Rattle.straight_paths.specs.Inner.Tails.{AreStraight, IsAhead, IsStraightFor, IsTail, last_of, limit_of}
+use Rattle.path_cones.specs.Inner.Tails.{AreStraight, IsAhead, IsStraightFor, IsTail, last_of, limit_of}
 use Rattle.straight_paths.specs.Inner.NextSteps.{IsStraightUpTo, TellsNext}
-use Rattle.straight_paths.specs.declared.strip.Strip.{Strip}
+use Rattle.path_cones.specs.declared.strip.Strip.{Strip}
 use Rattle.straight_paths.specs.declared.sweep.Seen.{Seen}
 use Rattle.straight_paths.specs.declared.table.Table.{Table}
-use Rattle.straight_paths.specs.declared.vector.Vector.{Vector}
-use Rattle.straight_paths.proofs.Cyclic.{first_step, path_lap_on, rest_is}
-use Rattle.straight_paths.proofs.Pieces.{is_clear, none_is_straight, shorter, without_first}
-use Rattle.straight_paths.proofs.Places.{one_more_down}
+use Rattle.path_cones.specs.declared.vector.Vector.{Vector}
+use Rattle.path_cones.proofs.Cyclic.{first_step, path_lap_on, rest_is}
+use Rattle.path_cones.proofs.Pieces.{is_clear, none_is_straight, shorter, without_first}
+use Rattle.path_cones.proofs.Places.{one_more_down}
 
 -- ---- a step earlier
 

@@ -3,18 +3,18 @@ use Rattle.std.proofs.Common.{◌≡◌, ◌↔◌, unsigned_abs, Bool, true, fa
 use Rattle.std.proofs.lemmas.Bool.{cases_eq, false≢true}
 use Rattle.std.proofs.lemmas.Int.{ints}
 use Rattle.pt_core.specs.declared.point.Point.{Point}
-use Rattle.straight_paths.specs.Inner.Codes.{beyond, coded_step}
-use Rattle.straight_paths.specs.Inner.Cones.{HoldsWay}
-use Rattle.straight_paths.specs.Inner.Corners.{GoesStraight}
-use Rattle.straight_paths.specs.Corners.{step_from}
+use Rattle.path_cones.specs.Inner.Codes.{beyond, coded_step}
+use Rattle.path_cones.specs.Inner.Cones.{HoldsWay}
+use Rattle.path_cones.specs.Inner.Corners.{GoesStraight}
+use Rattle.path_cones.specs.Corners.{step_from}
 use Rattle.straight_paths.specs.Inner.Courses.{HasCourse, cone_of, wide_of}
-use Rattle.straight_paths.specs.Straight.{IsNear, IsStraight, Takes, TakesAllFour}
-use Rattle.straight_paths.specs.Inner.Tails.{way_along}
+use Rattle.path_cones.specs.Straight.{IsNear, IsStraight, Takes, TakesAllFour}
+use Rattle.path_cones.specs.Inner.Tails.{way_along}
 use Rattle.straight_paths.specs.Inner.NextSteps.{AreTaken}
 use Rattle.straight_paths.specs.declared.course.Course.{Course}
-use Rattle.straight_paths.specs.declared.vector.Vector.{Vector}
-use Rattle.straight_paths.proofs.Clear.{next_clear, next_holds}
-use Rattle.straight_paths.proofs.Pieces.{is_clear, rest_of, takes_more, with_first}
+use Rattle.path_cones.specs.declared.vector.Vector.{Vector}
+use Rattle.path_cones.proofs.Clear.{next_clear, next_holds}
+use Rattle.path_cones.proofs.Pieces.{is_clear, rest_of, takes_more, with_first}
 
 same_vector : (a b : Vector) → a.x ≡ b.x → a.y ≡ b.y → a ≡ b
 same_vector a b x y = let v : ℤ → ℤ → Vector = λ x y. record { x = x; y = y } in ap (λ z. v z a.y) x ∙ ap (v b.x) y

@@ -1,22 +1,17 @@
 //! How far what is straight from each point reaches, by the walk taken backwards.
 ghost use Rattle.std.specs.Prelude.{◌≡◌, ◌⊎◌, ◌+◌, ◌<◌, ◌≤◌, length, IfOk, IfSome, None, Some};
 ghost use Rattle.pt_core.specs.ClosedWalk.{point_at};
-ghost use Rattle.straight_paths.specs.Inner.Cones.{IsClear};
-ghost use Rattle.straight_paths.specs.Straight.{path_from, vector_of};
-ghost use Rattle.straight_paths.specs.Inner.Strips.{TakesStep};
+ghost use Rattle.path_cones.specs.Inner.Cones.{IsClear};
+ghost use Rattle.path_cones.specs.Straight.{path_from, vector_of};
+ghost use Rattle.path_cones.specs.Inner.Strips.{TakesStep};
 ghost use Rattle.straight_paths.specs.Inner.Sweeps.{AreEndsFrom, IsEnough, IsSeen, IsSweep, IsTold};
 ghost use Rattle.straight_paths.specs.Inner.Tables.{IsWordTable};
-ghost use Rattle.straight_paths.specs.Inner.Tails.{AreStraight, both_back_of, last_of, limit_of};
+ghost use Rattle.path_cones.specs.Inner.Tails.{AreStraight, both_back_of, last_of, limit_of};
 
-use crate::first::clear_steps;
-use crate::laps::point_of_lap;
-use crate::strip::{Lane, Strip};
 use crate::sweep::{Seen, Sweep};
 use crate::table::Table;
-use crate::tail::Tail;
-use crate::track::Track;
-use crate::vector::Vector;
 use crate::word::direction;
+use path_cones::{Lane, Strip, Tail, Track, Vector, clear_steps, point_of_lap};
 use pt_core::NoMemory;
 use std::alloc::Global;
 use std::cmp::min;

@@ -1,9 +1,9 @@
 //! Which of the four directions were taken.
 ghost use Rattle.std.specs.Prelude.{◌≡◌, ◌≢◌, ◌↔◌, ◌<◌, ◌+◌, ℕ, true, IsTrue};
 ghost use Rattle.pt_core.specs.declared.point.Point.{Point};
-ghost use Rattle.straight_paths.specs.Inner.Codes.{coded_step};
-ghost use Rattle.straight_paths.specs.Corners.{step_from};
-ghost use Rattle.straight_paths.specs.Straight.{TakesAllFour};
+ghost use Rattle.path_cones.specs.Inner.Codes.{coded_step};
+ghost use Rattle.path_cones.specs.Corners.{step_from};
+ghost use Rattle.path_cones.specs.Straight.{TakesAllFour};
 ghost use Rattle.straight_paths.specs.Inner.NextSteps.{AreTaken};
 
 /// Which of the four directions were taken.

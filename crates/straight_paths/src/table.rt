@@ -1,11 +1,11 @@
 //! What was found of paths' next few steps.
 ghost use Rattle.std.specs.Prelude.{◌≡◌, ◌+◌, ◌*◌, ◌<◌, ◌≤◌, ℕ, suc, length, slice_index, slice_index_or, IfOk, IfSome, IsTrue};
 ghost use Rattle.pt_core.specs.declared.point.Point.{Point};
-ghost use Rattle.straight_paths.specs.Inner.Codes.{IsCoded, beyond, coded_step};
-ghost use Rattle.straight_paths.specs.Inner.Cones.{HoldsWay};
-ghost use Rattle.straight_paths.specs.Corners.{step_from};
+ghost use Rattle.path_cones.specs.Inner.Codes.{IsCoded, beyond, coded_step};
+ghost use Rattle.path_cones.specs.Inner.Cones.{HoldsWay};
+ghost use Rattle.path_cones.specs.Corners.{step_from};
 ghost use Rattle.straight_paths.specs.Inner.Courses.{cone_of, wide_of};
-ghost use Rattle.straight_paths.specs.Straight.{IsStraight};
+ghost use Rattle.path_cones.specs.Straight.{IsStraight};
 ghost use Rattle.straight_paths.specs.Inner.Tables.{GrowsInto, HasWordAt, IsCourseOf, IsWordOf, IsWordTable, LeadsFront, LeadsToWord, StandsFor, count_at, course_at, digits_at};
 
 use crate::course::Course;

@@ -1,13 +1,12 @@
 //! Words: how a path takes its next few steps.
 ghost use Rattle.std.specs.Prelude.{◌≡◌, ◌↔◌, ◌+◌, ◌*◌, ◌<◌, ◌≤◌, ℕ, suc};
 ghost use Rattle.pt_core.specs.declared.point.Point.{Point};
-ghost use Rattle.straight_paths.specs.Inner.Codes.{GoesByOne, IsCoded, coded_step};
-ghost use Rattle.straight_paths.specs.Corners.{step_from};
-ghost use Rattle.straight_paths.specs.Inner.Tails.{last_of, limit_of};
-ghost use Rattle.straight_paths.specs.Straight.{path_from};
+ghost use Rattle.path_cones.specs.Inner.Codes.{GoesByOne, IsCoded, coded_step};
+ghost use Rattle.path_cones.specs.Corners.{step_from};
+ghost use Rattle.path_cones.specs.Inner.Tails.{last_of, limit_of};
+ghost use Rattle.path_cones.specs.Straight.{path_from};
 
-use crate::track::Track;
-use crate::vector::Vector;
+use path_cones::{Track, Vector};
 
 /// The most steps of a word that is kept.
 pub(crate) const LONGEST: u32 = 19;

@@ -1,19 +1,19 @@
 -- What the steps of a word come to.
 use Rattle.std.specs.Prelude.{◌≡◌, ℕ, suc, ◌+◌, ◌<◌, pos, false}
 use Rattle.pt_core.specs.declared.point.Point.{Point}
-use Rattle.straight_paths.specs.Inner.Codes.{IsCoded, coded_step}
-use Rattle.straight_paths.specs.Inner.Cones.{HoldsNear, IsSound}
-use Rattle.straight_paths.specs.Corners.{step_from}
-use Rattle.straight_paths.specs.Straight.{IsStraight}
-use Rattle.straight_paths.specs.Inner.Tails.{way_along}
+use Rattle.path_cones.specs.Inner.Codes.{IsCoded, coded_step}
+use Rattle.path_cones.specs.Inner.Cones.{HoldsNear, IsSound}
+use Rattle.path_cones.specs.Corners.{step_from}
+use Rattle.path_cones.specs.Straight.{IsStraight}
+use Rattle.path_cones.specs.Inner.Tails.{way_along}
 use Rattle.straight_paths.specs.Inner.NextSteps.{AreTaken}
-use Rattle.straight_paths.specs.declared.cone.Cone.{Cone}
-use Rattle.straight_paths.specs.declared.cone.Cone.TheVariants.{Between, Open}
+use Rattle.path_cones.specs.declared.cone.Cone.{Cone}
+use Rattle.path_cones.specs.declared.cone.Cone.TheVariants.{Between, Open}
 use Rattle.straight_paths.specs.declared.course.Course.{Course}
 use Rattle.straight_paths.specs.declared.course.Narrow.{Narrow}
 use Rattle.straight_paths.specs.declared.course.Narrow.TheVariants.{Bounded, Unbounded}
 use Rattle.straight_paths.specs.declared.course.Short.{Short}
-use Rattle.straight_paths.specs.declared.vector.Vector.{Vector}
+use Rattle.path_cones.specs.declared.vector.Vector.{Vector}
 
 -- the vector that is kept
 abbrev pub wide_of : Short → Vector

@@ -1,9 +1,9 @@
 -- How many of a path's next few steps are straight.
 use Rattle.std.specs.Prelude.{◌≡◌, ◌↔◌, ℕ, suc, ◌≤◌, IsTrue}
 use Rattle.pt_core.specs.declared.point.Point.{Point}
-use Rattle.straight_paths.specs.Inner.Codes.{IsCoded, coded_step}
-use Rattle.straight_paths.specs.Corners.{step_from}
-use Rattle.straight_paths.specs.Straight.{IsStraight, Takes, east, north, west, south}
+use Rattle.path_cones.specs.Inner.Codes.{IsCoded, coded_step}
+use Rattle.path_cones.specs.Corners.{step_from}
+use Rattle.path_cones.specs.Straight.{IsStraight, Takes, east, north, west, south}
 use Rattle.straight_paths.specs.declared.flags.Flags.{Flags}
 
 -- of the path's first `most` steps, exactly the first `count` are straight

@@ -1,11 +1,11 @@
 -- What is straight from an index on, as a sweep knows it.
 use Rattle.std.specs.Prelude.{◌≡◌, ◌⊎◌, ℕ, ◌+◌, ◌-◌, ◌<◌, ◌≤◌, List, length, slice_index, IfSome}
 use Rattle.pt_core.specs.declared.point.Point.{Point}
-use Rattle.straight_paths.specs.Inner.Codes.{IsCoded}
-use Rattle.straight_paths.specs.Straight.{IsStraight, path_from}
-use Rattle.straight_paths.specs.Inner.Strips.{HoldsPath}
+use Rattle.path_cones.specs.Inner.Codes.{IsCoded}
+use Rattle.path_cones.specs.Straight.{IsStraight, path_from}
+use Rattle.path_cones.specs.Inner.Strips.{HoldsPath}
 use Rattle.straight_paths.specs.Inner.Tables.{IsWordOf, IsWordTable, count_at, digits_at}
-use Rattle.straight_paths.specs.Inner.Tails.{IsTail, limit_of, last_of}
+use Rattle.path_cones.specs.Inner.Tails.{IsTail, limit_of, last_of}
 use Rattle.straight_paths.specs.declared.sweep.Seen.{Seen}
 use Rattle.straight_paths.specs.declared.sweep.Sweep.{Sweep}
 use Rattle.straight_paths.specs.declared.sweep.Sweep.TheVariants.{Told, Held}

@@ -1,9 +1,9 @@
 -- What a table of words tells.
 use Rattle.std.specs.Prelude.{◌≡◌, ◌⊎◌, ℕ, ◌+◌, ◌*◌, ◌<◌, ◌≤◌, length, slice_index, slice_index_or}
 use Rattle.pt_core.specs.declared.point.Point.{Point}
-use Rattle.straight_paths.specs.Inner.Codes.{IsCoded}
+use Rattle.path_cones.specs.Inner.Codes.{IsCoded}
 use Rattle.straight_paths.specs.Inner.Courses.{IsCourse, no_course}
-use Rattle.straight_paths.specs.Straight.{IsStraight}
+use Rattle.path_cones.specs.Straight.{IsStraight}
 use Rattle.straight_paths.specs.Inner.NextSteps.{TellsFront, TellsNext}
 use Rattle.straight_paths.specs.declared.course.Course.{Course}
 use Rattle.straight_paths.specs.declared.table.Table.{Table}

@@ -3,7 +3,7 @@ use Rattle.std.proofs.Common.{◌≡◌, ◌∙◌, ◌<◌, ◌+◌, ◌-◌, �
 use Rattle.bit_image.specs.FirstBlack.{IsFirstBlack}
 use Rattle.bit_image.specs.Image.{Fits}
 use Rattle.bit_image.specs.Page.{Page, SameSides, image_of}
-use Rattle.path_decompose.specs.Inner.Bounds.{IsPathOn}
+use Rattle.boundary_edges.specs.Inner.Bounds.{IsPathOn}
 use Rattle.path_decompose.specs.Inner.Start.{IsStart}
 use Rattle.path_decompose.proofs.PathOn.{page_paths_on}
 use Rattle.path_decompose.proofs.Above.{above_push, above_at_end, all_above}

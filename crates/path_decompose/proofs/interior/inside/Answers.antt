@@ -1,9 +1,9 @@
 -- Each turn of the loop takes one line off those that are still to come, and the last call takes the last one.
 use Rattle.std.proofs.Common.{◌∙◌, ap, sym}
 use Rattle.bit_image.specs.Image.{differ}
-use Rattle.path_decompose.specs.Inside.{lines_of, is_crossed}
-use Rattle.path_decompose.proofs.Differ.{not-beq, differ-false, differ_assoc}
-use Rattle.path_decompose.proofs.Corners.{lines_to-drop, lines_to-end}
+use Rattle.boundary_edges.specs.Inside.{lines_of, is_crossed}
+use Rattle.boundary_edges.proofs.Differ.{not-beq, differ-false, differ_assoc}
+use Rattle.boundary_edges.proofs.Corners.{lines_to-drop, lines_to-end}
 use Rattle.path_decompose.proofs.Parity.{odd_by, is_odd-count}
 use Rattle.path_decompose.proofs.interior.inside.Goals as goal
 

@@ -1,6 +1,6 @@
 use Rattle.std.proofs.Common.{◌≡◌, drop}
 use Rattle.bit_image.specs.Image.{differ}
-use Rattle.path_decompose.specs.Inside.{lines_to, is_crossed, inside}
+use Rattle.boundary_edges.specs.Inside.{lines_to, is_crossed, inside}
 use Rattle.path_decompose.proofs.Parity.{odd_by}
 use Rattle.path_decompose.proofs.interior.inside.Given as goal
 

@@ -1,7 +1,7 @@
 -- Each is a lemma.
 use Rattle.std.proofs.Common.{get_or, sym, ◌∙◌}
 use Rattle.bit_image.specs.Page.{image_of}
-use Rattle.path_decompose.specs.Inside.{inside}
+use Rattle.boundary_edges.specs.Inside.{inside}
 use Rattle.path_decompose.proofs.Counted.{areas_on_page, black_count-past}
 use Rattle.path_decompose.proofs.PathOn.{page_paths_on}
 use Rattle.path_decompose.proofs.Sums.{even_odd, edges_once}

@@ -3,7 +3,7 @@ use Rattle.pt_core.specs.declared.limits.TheConstants.{LONGEST_SIDE}
 use Rattle.bit_image.specs.Page.{image_of}
 use Rattle.turn_policies.specs.Boundary.{IsBoundary}
 use Rattle.turn_policies.specs.Turn.{next}
-use Rattle.path_decompose.specs.Inner.BoundaryBits.{IsSpotAt}
+use Rattle.boundary_edges.specs.Inner.BoundaryBits.{IsSpotAt}
 use Rattle.path_decompose.specs.Inner.Trail.{edge_from, IsStraightRun}
 use Rattle.path_decompose.proofs.Runs.{edges_left}
 use Rattle.path_decompose.proofs.walk.turned_run.Given as goal

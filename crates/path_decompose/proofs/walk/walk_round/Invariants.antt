@@ -1,7 +1,7 @@
 use Rattle.std.proofs.Common.{◌≡◌, true, suc, ◌-◌, ◌*◌, length}
 use Rattle.bit_image.specs.Page.{image_of}
 use Rattle.turn_policies.specs.Turn.{next}
-use Rattle.path_decompose.specs.Inner.BoundaryBits.{IsSpotAt}
+use Rattle.boundary_edges.specs.Inner.BoundaryBits.{IsSpotAt}
 use Rattle.path_decompose.specs.Inner.Trail.{is_upright}
 use Rattle.path_decompose.specs.Walk.{first_edge}
 use Rattle.path_decompose.proofs.Noted.{IsNoted}

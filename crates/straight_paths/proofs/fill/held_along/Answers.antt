@@ -1,4 +1,4 @@
-use Rattle.straight_paths.proofs.Stepping.{stays_as_it_is}
+use Rattle.path_cones.proofs.Stepping.{stays_as_it_is}
 use Rattle.straight_paths.proofs.fill.held_along.Goals as goal
 
 pub run_back-requires-clause-keeps : goal.run_back-requires-clause-keeps

@@ -4,17 +4,17 @@ use Rattle.std.specs.Int.Signed.{le_z}
 use Rattle.pt_core.specs.ClosedWalk.{point_at}
 use Rattle.pt_core.specs.declared.point.Point.{Point}
 use Rattle.pt_core.proofs.Sizes.{back}
-use Rattle.straight_paths.specs.Inner.Cones.{to_left_of, rise_of}
-use Rattle.straight_paths.specs.Inner.Strips.{IsWiderLane, seen_of, with_across}
+use Rattle.path_cones.specs.Inner.Cones.{to_left_of, rise_of}
+use Rattle.path_cones.specs.Inner.Strips.{IsWiderLane, seen_of, with_across}
 use Rattle.straight_paths.specs.Inner.Sweeps.{AreEndsFrom, IsSeen}
-use Rattle.straight_paths.specs.Inner.Tails.{IsSoonerOnward, limit_of, with_onward}
-use Rattle.straight_paths.specs.Inner.Wedges.{diagonal_of}
-use Rattle.straight_paths.specs.declared.strip.Span.{Span}
-use Rattle.straight_paths.specs.declared.tail.Ahead.{Ahead}
-use Rattle.straight_paths.specs.declared.vector.Vector.{Vector}
+use Rattle.path_cones.specs.Inner.Tails.{IsSoonerOnward, limit_of, with_onward}
+use Rattle.path_cones.specs.Inner.Wedges.{diagonal_of}
+use Rattle.path_cones.specs.declared.strip.Span.{Span}
+use Rattle.path_cones.specs.declared.tail.Ahead.{Ahead}
+use Rattle.path_cones.specs.declared.vector.Vector.{Vector}
 use Rattle.straight_paths.proofs.Lanes.{seen_onward}
 use Rattle.straight_paths.proofs.Runs.{seen_by}
-use Rattle.straight_paths.proofs.Stepping.{across_small, breadth_fits}
+use Rattle.path_cones.proofs.Stepping.{across_small, breadth_fits}
 use Rattle.straight_paths.proofs.Windows.{end_of_seen, one_more}
 use Rattle.straight_paths.proofs.fill.onward_back.Goals as goal
 

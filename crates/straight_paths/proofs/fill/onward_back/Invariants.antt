@@ -1,10 +1,10 @@
 use Rattle.std.proofs.Common.{◌≡◌, ◌+◌, ◌^◌, ◌≤◌, unsigned_abs}
 use Rattle.pt_core.specs.ClosedWalk.{point_at}
-use Rattle.straight_paths.specs.Inner.Cones.{to_left_of, rise_of}
-use Rattle.straight_paths.specs.Inner.Strips.{seen_of, with_across}
+use Rattle.path_cones.specs.Inner.Cones.{to_left_of, rise_of}
+use Rattle.path_cones.specs.Inner.Strips.{seen_of, with_across}
 use Rattle.straight_paths.specs.Inner.Sweeps.{AreEndsFrom, IsSeen}
-use Rattle.straight_paths.specs.Inner.Tails.{limit_of, with_onward}
-use Rattle.straight_paths.specs.Inner.Wedges.{diagonal_of}
+use Rattle.path_cones.specs.Inner.Tails.{limit_of, with_onward}
+use Rattle.path_cones.specs.Inner.Wedges.{diagonal_of}
 use Rattle.straight_paths.proofs.Runs.{seen_by}
 use Rattle.straight_paths.proofs.fill.onward_back.Given as goal
 

@@ -1,8 +1,8 @@
 use Rattle.std.proofs.Common.{◌≡◌, ◌+◌, ◌-◌, ℕ, min, subst, rules, arith}
 use Rattle.straight_paths.specs.Inner.Sweeps.{AreEndsFrom, IsEnd, IsSeen}
-use Rattle.straight_paths.specs.Inner.Tails.{limit_of}
+use Rattle.path_cones.specs.Inner.Tails.{limit_of}
 use Rattle.straight_paths.proofs.Runs.{IsSeenAlong, along_at_first, along_earlier, end_along, seen_by}
-use Rattle.straight_paths.proofs.Turns.{step_before}
+use Rattle.path_cones.proofs.Turns.{step_before}
 use Rattle.straight_paths.proofs.Windows.{one_more}
 use Rattle.straight_paths.proofs.fill.run_back.Goals as goal
 

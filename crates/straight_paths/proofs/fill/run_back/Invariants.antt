@@ -1,8 +1,8 @@
 use Rattle.std.proofs.Common.{◌≡◌, ◌+◌, ◌≤◌, min}
 use Rattle.pt_core.specs.ClosedWalk.{point_at}
-use Rattle.straight_paths.specs.Straight.{vector_of}
+use Rattle.path_cones.specs.Straight.{vector_of}
 use Rattle.straight_paths.specs.Inner.Sweeps.{AreEndsFrom}
-use Rattle.straight_paths.specs.Inner.Tails.{limit_of}
+use Rattle.path_cones.specs.Inner.Tails.{limit_of}
 use Rattle.straight_paths.proofs.Runs.{IsSeenAlong}
 use Rattle.straight_paths.proofs.fill.run_back.Given as goal
 

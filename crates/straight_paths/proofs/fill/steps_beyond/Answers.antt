@@ -1,5 +1,5 @@
 use Rattle.std.proofs.Common.{arith}
-use Rattle.straight_paths.proofs.Ends.{one_beyond}
+use Rattle.path_cones.proofs.Ends.{one_beyond}
 use Rattle.straight_paths.proofs.fill.steps_beyond.Goals as goal
 
 pub returns-clause-enough : goal.returns-clause-enough

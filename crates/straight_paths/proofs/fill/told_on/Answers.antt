@@ -1,12 +1,12 @@
 use Rattle.std.proofs.Common.{◌≡◌, ◌+◌, ◌-◌, min, ℕ, List, refl, subst, rules, arith}
 use Rattle.pt_core.specs.declared.point.Point.{Point}
 use Rattle.pt_core.specs.ClosedWalk.{point_at}
-use Rattle.straight_paths.specs.Straight.{vector_of}
-use Rattle.straight_paths.specs.declared.vector.Vector.{Vector}
+use Rattle.path_cones.specs.Straight.{vector_of}
+use Rattle.path_cones.specs.declared.vector.Vector.{Vector}
 use Rattle.straight_paths.specs.Inner.Sweeps.{AreEndsFrom, IsTold}
 use Rattle.straight_paths.specs.Inner.Tables.{LeadsToWord, count_at}
-use Rattle.straight_paths.specs.Inner.Tails.{limit_of}
-use Rattle.straight_paths.proofs.Coding.{goes_by_one}
+use Rattle.path_cones.specs.Inner.Tails.{limit_of}
+use Rattle.path_cones.proofs.Coding.{goes_by_one}
 use Rattle.straight_paths.proofs.Tabling.{entry_leads}
 use Rattle.straight_paths.proofs.Windows.{end_of_window, one_more, stays_whole, told_earlier}
 use Rattle.straight_paths.proofs.fill.told_on.Goals as goal

@@ -1,8 +1,8 @@
 use Rattle.std.proofs.Common.{◌≡◌, ◌+◌, Bool, true, false, not, suc, refl, subst, IsTrue, rules, arith}
 use Rattle.std.proofs.lemmas.Bool.{false≢true}
-use Rattle.straight_paths.specs.Inner.Cones.{HoldsWay}
-use Rattle.straight_paths.specs.Straight.{TakesAllFour}
-use Rattle.straight_paths.specs.declared.cone.Cone.{Cone}
+use Rattle.path_cones.specs.Inner.Cones.{HoldsWay}
+use Rattle.path_cones.specs.Straight.{TakesAllFour}
+use Rattle.path_cones.specs.declared.cone.Cone.{Cone}
 use Rattle.straight_paths.proofs.Wording.{not_held, straight_on}
 use Rattle.straight_paths.proofs.course.Course.goes_on.Goals as goal
 

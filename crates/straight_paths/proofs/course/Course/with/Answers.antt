@@ -1,11 +1,11 @@
 use Rattle.std.proofs.Common.{◌≡◌, ◌+◌, ◌↔◌, suc, refl, sym, subst, arith}
-use Rattle.straight_paths.specs.Inner.Cones.{HoldsWay, IsSound}
+use Rattle.path_cones.specs.Inner.Cones.{HoldsWay, IsSound}
 use Rattle.straight_paths.specs.Inner.Courses.{cone_of}
-use Rattle.straight_paths.specs.Straight.{IsNear}
+use Rattle.path_cones.specs.Straight.{IsNear}
 use Rattle.straight_paths.specs.Inner.NextSteps.{AreTaken}
-use Rattle.straight_paths.specs.declared.cone.Cone.{Cone}
+use Rattle.path_cones.specs.declared.cone.Cone.{Cone}
 use Rattle.straight_paths.specs.declared.course.Course.{Course}
-use Rattle.straight_paths.specs.declared.vector.Vector.{Vector}
+use Rattle.path_cones.specs.declared.vector.Vector.{Vector}
 use Rattle.straight_paths.proofs.Wording.{course_on}
 use Rattle.straight_paths.proofs.course.Course.with.Goals as goal
 

@@ -3,10 +3,10 @@ use Rattle.std.proofs.lemmas.Bool.{cases_eq}
 use Rattle.std.specs.Prelude.{slice_index}
 use Rattle.pt_core.specs.ClosedWalk.{IsClosedWalk}
 use Rattle.pt_core.specs.declared.point.Point.{Point}
-use Rattle.straight_paths.specs.Straight.{IsFarthest}
-use Rattle.straight_paths.specs.Inner.Tails.{AreStraight}
+use Rattle.path_cones.specs.Straight.{IsFarthest}
+use Rattle.path_cones.specs.Inner.Tails.{AreStraight}
 use Rattle.straight_paths.proofs.Far.{at_least_three, farthest}
-use Rattle.straight_paths.proofs.Written.{whole}
+use Rattle.path_cones.proofs.Written.{whole}
 use Rattle.straight_paths.proofs.reach.Reach.into_steps.Goals as goal
 
 module _ (points : List Point) (steps : List ℕ) (closed : IsClosedWalk points) (are : AreStraight points steps) where

@@ -1,5 +1,5 @@
 use Rattle.std.proofs.Common.{◌≡◌, None, ℕ, ◌+◌, min, refl, subst, rules, arith}
-use Rattle.straight_paths.specs.Inner.Tails.{IsAhead, limit_of}
+use Rattle.path_cones.specs.Inner.Tails.{IsAhead, limit_of}
 use Rattle.straight_paths.proofs.Windows.{seen_from_window}
 use Rattle.straight_paths.proofs.sweep.Seen.of_window.Goals as goal
 

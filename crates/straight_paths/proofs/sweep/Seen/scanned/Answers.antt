@@ -1,8 +1,8 @@
 use Rattle.std.proofs.Common.{◌≡◌, ℕ, ◌-◌, min, IfSome, subst, rules, arith}
 use Rattle.pt_core.specs.declared.point.Point.{Point}
-use Rattle.straight_paths.specs.Inner.Strips.{HoldsPath}
-use Rattle.straight_paths.specs.Inner.Tails.{limit_of}
-use Rattle.straight_paths.proofs.Ends.{clear_at, path_at_place}
+use Rattle.path_cones.specs.Inner.Strips.{HoldsPath}
+use Rattle.path_cones.specs.Inner.Tails.{limit_of}
+use Rattle.path_cones.proofs.Ends.{clear_at, path_at_place}
 use Rattle.straight_paths.proofs.Windows.{seen_earlier}
 use Rattle.straight_paths.proofs.sweep.Seen.scanned.Goals as goal
 

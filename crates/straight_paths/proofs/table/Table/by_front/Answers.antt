@@ -1,12 +1,12 @@
 use Rattle.std.proofs.Common.{◌≡◌, ℕ, suc, sym, ◌∙◌, subst, IsTrue, rules}
 use Rattle.pt_core.specs.declared.point.Point.{Point}
-use Rattle.straight_paths.specs.Inner.Codes.{coded_step}
-use Rattle.straight_paths.specs.Corners.{step_from}
+use Rattle.path_cones.specs.Inner.Codes.{coded_step}
+use Rattle.path_cones.specs.Corners.{step_from}
 use Rattle.straight_paths.specs.Inner.Courses.{HasCourse}
-use Rattle.straight_paths.specs.Straight.{IsStraight}
+use Rattle.path_cones.specs.Straight.{IsStraight}
 use Rattle.straight_paths.specs.Inner.Tables.{count_at, course_at, digits_at}
 use Rattle.straight_paths.specs.declared.course.Course.{Course}
-use Rattle.straight_paths.proofs.Pieces.{rest_of}
+use Rattle.path_cones.proofs.Pieces.{rest_of}
 use Rattle.straight_paths.proofs.Tabling.{tells_end, tells_less, whole_straight}
 use Rattle.straight_paths.proofs.table.Table.by_front.Goals as goal
 

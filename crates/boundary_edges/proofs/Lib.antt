@@ -1,0 +1,11 @@
+pub mod Differ
+pub mod Corners
+pub mod Spread
+pub mod EdgeBits
+pub mod EdgeTaken
+pub mod LineSpots
+pub mod CornerSpots
+pub mod Straight
+pub mod Bounded
+pub mod EightPixels
+pub mod Taken

@@ -1,0 +1,4 @@
+pub mod GridEdges
+pub mod Inside
+pub mod Bounds
+pub mod Inner

@@ -1,0 +1,224 @@
+//! The edges along a path's lines, taken away corner by corner.
+//!
+//! Most lines stand in the word of the one before, one bit beside it, or in the next word of the strip. A long straight
+//! run is known by its two ends alone.
+ghost use Rattle.std.specs.Prelude.{◌≡◌, ℕ, ◌+◌, ◌*◌, ◌≤◌, ◌<◌, ◌^◌, ◌&&◌, not, length, All};
+ghost use Rattle.boundary_edges.specs.Inner.Blocks.{AreBlocks};
+ghost use Rattle.boundary_edges.specs.Inner.BoundaryBits.{has_edge, FitsStrips, is_along};
+ghost use Rattle.boundary_edges.specs.Inner.Taken.{IsSpotOf, IsTowards, AreWordsFor, corner_of, is_along_any, AreTakenBy, AreLinesTaken};
+ghost use Rattle.boundary_edges.specs.Inside.{line_between, lines_of};
+ghost use Rattle.pt_core.specs.ClosedWalk.{IsUnitStep, IsClosedWalk};
+
+use crate::blocks::{BLOCK, Blocks};
+use crate::edges::MARGIN;
+use crate::strips::{
+    DOWN, LEFT, Spot, spot_above, spot_at, spot_below, spot_left, spot_right, take_edge,
+};
+use pt_core::Point;
+use turn_policies::Dir;
+
+/// How many lines of a walk are looked at at once, to see whether they run straight on.
+const STRETCH: usize = 32;
+
+/// Takes the edges along the lines of a closed walk away.
+pub(crate) fn take_path(words: &mut Blocks, rows: usize, points: &[Point])
+    requires rows { rows < 2 ^ 16 }
+    requires closed { IsClosedWalk points.now }
+    requires room { All (FitsStrips rows (length words.old)) points.now }
+    ensures length { length words.new ≡ length words.old }
+    ensures edges { (k u v : ℕ) → k < 2 → has_edge rows words.new k u v
+        ≡ has_edge rows words.old k u v && not (is_along_any (lines_of points.now) k u v) }
+{
+    take_stretches(&mut words.words, &words.starts, rows, points);
+}
+
+/// The same in the words that take room, by where the blocks begin.
+//
+// It isn't inlined, so that its loops have the registers to themselves.
+#[inline(never)]
+fn take_stretches(words: &mut [u64], starts: &[u32], rows: usize, points: &[Point])
+    requires words { AreWordsFor points.now rows (BLOCK * length starts.now) }
+    requires blocks { AreBlocks starts.now words.old }
+    ensures { AreTakenBy rows starts.now (is_along_any (lines_of points.now)) words.old words.new }
+{
+    let (first, last) = (points[0], points.len() - 1);
+    let mut spot = spot_at(
+        starts,
+        rows,
+        first.x as u32 + MARGIN,
+        first.y as u32 + MARGIN,
+    );
+    let mut at = 0;
+    'stretches: while at < last {
+        let end = last.min(at + STRETCH);
+        spot = take_stretch(words, starts, rows, spot, points, at, end);
+        at = end;
+    }
+    take_line(words, starts, rows, spot, points[last], first);
+}
+
+/// Takes the edges between two corners of a closed walk away, at most a stretch apart, and tells where the last one's
+/// stand.
+//
+// They run straight on only where the second corner is as far off as it can be.
+#[inline(always)]
+fn take_stretch(
+    words: &mut [u64],
+    starts: &[u32],
+    rows: usize,
+    spot: Spot,
+    points: &[Point],
+    from: usize,
+    to: usize,
+) -> Spot
+    requires words { AreWordsFor points.now rows (BLOCK * length starts.now) }
+    requires blocks { AreBlocks starts.now words.old }
+    requires order { (from ≤ to) × (to ≤ from + STRETCH) × (to < length points.now) }
+    requires spot { IsSpotOf rows starts.now (corner_of points.now from) spot }
+    ensures taken { AreLinesTaken rows starts.now points.now from to words.old words.new }
+    ensures spot { IsSpotOf rows starts.now (corner_of points.now to) result }
+{
+    let (here, there) = (points[from], points[to]);
+    let (right, up) = (there.x - here.x, there.y - here.y);
+    if up == STRETCH as i32 {
+        take_run(words, starts, rows, spot, points, from, Dir::North)
+    } else if up == -(STRETCH as i32) {
+        take_run(words, starts, rows, spot, points, from, Dir::South)
+    } else if right == STRETCH as i32 {
+        take_run(words, starts, rows, spot, points, from, Dir::East)
+    } else if right == -(STRETCH as i32) {
+        take_run(words, starts, rows, spot, points, from, Dir::West)
+    } else {
+        take_lines(words, starts, rows, spot, points, from, to)
+    }
+}
+
+/// The same of a stretch whose lines all have one heading.
+#[inline(always)]
+fn take_run(
+    words: &mut [u64],
+    starts: &[u32],
+    rows: usize,
+    mut spot: Spot,
+    points: &[Point],
+    from: usize,
+    heading: Dir,
+) -> Spot
+    requires words { AreWordsFor points.now rows (BLOCK * length starts.now) }
+    requires blocks { AreBlocks starts.now words.old }
+    requires end { from + STRETCH < length points.now }
+    requires straight { (i : ℕ) → from ≤ i → i < from + STRETCH
+        → IsTowards heading (corner_of points.now i) (corner_of points.now (i + 1)) }
+    requires spot { IsSpotOf rows starts.now (corner_of points.now from) spot }
+    ensures taken { AreLinesTaken rows starts.now points.now from (from + STRETCH) words.old words.new }
+    ensures spot { IsSpotOf rows starts.now (corner_of points.now (from + STRETCH)) result }
+{
+    // The corners between are read only where a line leaves its strip.
+    'lines: for i in from..from + STRETCH {
+        spot = take_towards(words, starts, rows, spot, points[i], points[i + 1], heading);
+    }
+    spot
+}
+
+/// The same line by line.
+//
+// Each corner is read again as the one before the next: that is cheaper than to hold it.
+#[inline(always)]
+fn take_lines(
+    words: &mut [u64],
+    starts: &[u32],
+    rows: usize,
+    mut spot: Spot,
+    points: &[Point],
+    from: usize,
+    to: usize,
+) -> Spot
+    requires words { AreWordsFor points.now rows (BLOCK * length starts.now) }
+    requires blocks { AreBlocks starts.now words.old }
+    requires order { (from ≤ to) × (to < length points.now) }
+    requires spot { IsSpotOf rows starts.now (corner_of points.now from) spot }
+    ensures taken { AreLinesTaken rows starts.now points.now from to words.old words.new }
+    ensures spot { IsSpotOf rows starts.now (corner_of points.now to) result }
+{
+    'lines: for i in from..to {
+        spot = take_line(words, starts, rows, spot, points[i], points[i + 1]);
+    }
+    spot
+}
+
+/// Takes the edge along the line between two corners one step apart away, and tells where the second one's stand.
+#[inline(always)]
+fn take_line(
+    words: &mut [u64],
+    starts: &[u32],
+    rows: usize,
+    spot: Spot,
+    from: Point,
+    to: Point,
+) -> Spot
+    requires rows { rows < 2 ^ 16 }
+    requires blocks { AreBlocks starts.now words.old }
+    requires spot { IsSpotOf rows starts.now from spot }
+    requires from { FitsStrips rows (BLOCK * length starts.now) from }
+    requires to { FitsStrips rows (BLOCK * length starts.now) to }
+    requires step { IsUnitStep from to }
+    ensures taken { AreTakenBy rows starts.now (λ k u v. is_along k u v (line_between from to)) words.old words.new }
+    ensures spot { IsSpotOf rows starts.now to result }
+{
+    if to.y > from.y {
+        take_towards(words, starts, rows, spot, from, to, Dir::North)
+    } else if to.y < from.y {
+        take_towards(words, starts, rows, spot, from, to, Dir::South)
+    } else if to.x > from.x {
+        take_towards(words, starts, rows, spot, from, to, Dir::East)
+    } else {
+        take_towards(words, starts, rows, spot, from, to, Dir::West)
+    }
+}
+
+/// The same of corners whose line has a heading.
+//
+// A line up or down is the edge that goes down from its upper corner, and one along a row the edge that goes left from
+// its right corner.
+#[inline(always)]
+fn take_towards(
+    words: &mut [u64],
+    starts: &[u32],
+    rows: usize,
+    spot: Spot,
+    from: Point,
+    to: Point,
+    heading: Dir,
+) -> Spot
+    requires rows { rows < 2 ^ 16 }
+    requires blocks { AreBlocks starts.now words.old }
+    requires spot { IsSpotOf rows starts.now from spot }
+    requires from { FitsStrips rows (BLOCK * length starts.now) from }
+    requires to { FitsStrips rows (BLOCK * length starts.now) to }
+    requires step { IsUnitStep from to }
+    requires heading { IsTowards heading from to }
+    ensures taken { AreTakenBy rows starts.now (λ k u v. is_along k u v (line_between from to)) words.old words.new }
+    ensures spot { IsSpotOf rows starts.now to result }
+{
+    let (x, y) = (from.x as u32 + MARGIN, from.y as u32 + MARGIN);
+    match heading {
+        Dir::North => {
+            let end = spot_above(spot, starts, rows, x, y);
+            take_edge(words, end, DOWN);
+            end
+        }
+        Dir::South => {
+            take_edge(words, spot, DOWN);
+            spot_below(spot, starts, rows, x, y)
+        }
+        Dir::East => {
+            let end = spot_right(spot, starts, rows, x, y);
+            take_edge(words, end, LEFT);
+            end
+        }
+        Dir::West => {
+            take_edge(words, spot, LEFT);
+            spot_left(spot, starts, rows, x, y)
+        }
+    }
+}

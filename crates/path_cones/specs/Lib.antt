@@ -1,0 +1,4 @@
+pub mod Straight
+pub mod Cones
+pub mod Corners
+pub mod Inner

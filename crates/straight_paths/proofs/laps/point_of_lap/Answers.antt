@@ -1,5 +1,0 @@
-use Rattle.straight_paths.proofs.Cyclic.{lap_at}
-use Rattle.straight_paths.proofs.laps.point_of_lap.Goals as goal
-
-pub returns : goal.returns
-returns c = lap_at c.args.points.now c.args.begin c.args.index c.requires.begin c.requires.after c.requires.before

@@ -1,5 +1,0 @@
-use Rattle.straight_paths.specs.Inner.Slopes.{AreSmallSlopes}
-use Rattle.straight_paths.proofs.trial.simplest_strip.Given as goal
-
-abbrev pub invariant-loop : goal.invariant-loop
-invariant-loop l = AreSmallSlopes l.slopes
