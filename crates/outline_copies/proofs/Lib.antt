@@ -6,3 +6,4 @@ pub mod Bends
 pub mod Cubics
 pub mod Runs
 pub mod Joins
+pub mod Copies

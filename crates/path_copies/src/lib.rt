@@ -4,9 +4,12 @@
 //! best polygon is told by how points lie to one another, so it is that of each copy too (`laws`).
 #![tactic(auto)]
 
+mod compare;
 pub mod copies;
-mod kept;
-mod key;
+pub mod key;
+pub mod known;
 pub mod laws;
 
 pub use copies::Copies;
+pub use key::Key;
+pub use known::{KnownPath, KnownPaths};
