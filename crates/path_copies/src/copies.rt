@@ -4,7 +4,7 @@ ghost use Rattle.pt_core.specs.ClosedWalk.{IsClosedWalk};
 ghost use Rattle.pt_core.specs.OnPage.{AreOnPage};
 ghost use Rattle.polygon_optimal.specs.Polygon.{IsBestPolygon, total_penalty};
 
-use crate::kept::Kept;
+use crate::kept_path::KeptPath;
 use crate::key::{key_of, mark_of, place_of};
 use polygon_optimal::{PolygonMemo, polygon_by};
 use prefix_moments::{Moments, MomentsRoom};
@@ -38,20 +38,20 @@ pub struct Copies {
     memo: PolygonMemo,
     /// A power of two of them, or none.
     places: Vec<Place>,
-    kept: Vec<Kept>,
+    kept: Vec<KeptPath>,
     /// How many points the kept paths have together.
     held: usize,
 }
 
 impl Model for Copies {
     ghost use Rattle.std.specs.Prelude.{All};
-    ghost use Rattle.path_copies.specs.Inner.Kept.{IsKept};
+    ghost use Rattle.path_copies.specs.Inner.KeptPaths.{IsKeptPath};
 
     ghost Value = { Unit };
 
     ghost view = { λ _. tt };
 
-    ghost invariant = { λ copies. All IsKept copies.kept.items };
+    ghost invariant = { λ copies. All IsKeptPath copies.kept.items };
 }
 
 impl Copies {
@@ -149,7 +149,7 @@ impl Copies {
         if held > MOST_HELD {
             return Ok(());
         }
-        self.kept.push(Kept::of(alloc, points, polygon)?)?;
+        self.kept.push(KeptPath::of(alloc, points, polygon)?)?;
         self.held = held;
         self.places[at].kept = u32::try_from(self.kept.len()).unwrap_or(0);
         Ok(())

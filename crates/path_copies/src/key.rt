@@ -2,7 +2,10 @@
 use pt_core::Point;
 
 /// So many points of a path, at most, are a part of its key.
-const PARTS: usize = 8;
+//
+// By eight of them, shapes that differ in a few steps had one key: on a page of printed dots 45 points of 100 were served,
+// and 86 by 32.
+const PARTS: usize = 32;
 
 /// A number that is the same for all copies of a path, and mostly another for other paths.
 //
@@ -12,16 +15,20 @@ pub(crate) fn key_of(points: &[Point]) -> u64 {
     let mut key = points.len() as u64;
     if let Some(first) = points.first() {
         for point in points.iter().step_by(points.len() / PARTS + 1) {
-            key = mixed(key, point.x.wrapping_sub(first.x));
-            key = mixed(key, point.y.wrapping_sub(first.y));
+            key = mixed(
+                key,
+                point.x.wrapping_sub(first.x),
+                point.y.wrapping_sub(first.y),
+            );
         }
     }
     key
 }
 
-/// A key with a number more.
-fn mixed(key: u64, number: i32) -> u64 {
-    let product = (key ^ u64::from(number.cast_unsigned())).wrapping_mul(0x9e37_79b9_7f4a_7c15);
+/// A key with an offset more.
+fn mixed(key: u64, right: i32, above: i32) -> u64 {
+    let offset = u64::from(right.cast_unsigned()) << 32 | u64::from(above.cast_unsigned());
+    let product = (key ^ offset).wrapping_mul(0x9e37_79b9_7f4a_7c15);
     product ^ product >> 32
 }
 

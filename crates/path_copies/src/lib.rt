@@ -5,7 +5,7 @@
 #![tactic(auto)]
 
 pub mod copies;
-mod kept;
+mod kept_path;
 mod key;
 pub mod laws;
 

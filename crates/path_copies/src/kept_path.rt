@@ -1,7 +1,7 @@
 //! Paths that are kept with their polygons.
 ghost use Rattle.std.specs.Prelude.{◌≡◌, ◌<◌, ◌-ℤ◌, IfOk, IfSome, IsTrue, length};
 ghost use Rattle.path_copies.specs.Copy.{IsCopy};
-ghost use Rattle.path_copies.specs.Inner.Kept.{IsKept};
+ghost use Rattle.path_copies.specs.Inner.KeptPaths.{IsKeptPath};
 ghost use Rattle.polygon_optimal.specs.Polygon.{IsBestPolygon, total_penalty};
 
 use pt_core::{NoMemory, Point, Polygon, Sequence};
@@ -9,22 +9,26 @@ use std::alloc::Global;
 
 /// A path and its polygon.
 #[derive(Drop)]
-pub(crate) struct Kept {
+pub(crate) struct KeptPath {
     points: Vec<Point>,
     polygon: Polygon,
 }
 
-impl Kept {
+impl KeptPath {
     /// Keeps a path with its best polygon.
-    pub(crate) fn of(alloc: Global, points: &[Point], polygon: &Polygon) -> Result<Kept, NoMemory>
+    pub(crate) fn of(
+        alloc: Global,
+        points: &[Point],
+        polygon: &Polygon,
+    ) -> Result<KeptPath, NoMemory>
         requires best { IsBestPolygon points.now polygon.now.at }
         requires cost { polygon.now.cost ≡ total_penalty points.now polygon.now.at }
-        ensures { IfOk result IsKept }
+        ensures { IfOk result IsKeptPath }
     {
         let mut copy = Vec::new(alloc);
         copy.extend_from_slice(points)?;
         let polygon = copy_of(alloc, polygon)?;
-        Ok(Kept {
+        Ok(KeptPath {
             points: copy,
             polygon,
         })
@@ -36,7 +40,7 @@ impl Kept {
         alloc: Global,
         points: &[Point],
     ) -> Result<Option<Polygon>, NoMemory>
-        requires kept { IsKept self.now }
+        requires kept { IsKeptPath self.now }
         requires some { 0 < length points.now }
         ensures best { IfOk result (λ found. IfSome found (λ polygon. IsBestPolygon points.now polygon.at)) }
         ensures cost { IfOk result (λ found. IfSome found

@@ -4,7 +4,7 @@ use Rattle.pt_core.specs.declared.polygon.Polygon.{Polygon}
 use Rattle.polygon_optimal.specs.Polygon.{IsBestPolygon, total_penalty}
 use Rattle.path_copies.specs.Copy.{IsCopy}
 use Rattle.path_copies.proofs.Same.{best_too, penalties_same}
-use Rattle.path_copies.proofs.kept.Kept.polygon_for.Goals as goal
+use Rattle.path_copies.proofs.kept_path.KeptPath.polygon_for.Goals as goal
 
 is_copy : (c : goal.In_ok-polygon) → IsCopy c.args.self.now.points.items c.args.points.now
 is_copy c = subst (λ (list : List Point). IsCopy list c.args.points.now) c.deref.ensures.value (c.if-not-is_copy.ensures refl)

@@ -1,6 +1,6 @@
 use Rattle.std.proofs.Common.{◌<◌, length, refl, below_more, arith}
 use Rattle.path_copies.proofs.Comparing.{IsAsFar, copy_from_far}
-use Rattle.path_copies.proofs.kept.is_copy.Goals as goal
+use Rattle.path_copies.proofs.kept_path.is_copy.Goals as goal
 
 pub loop-k-preserved : goal.loop-k-preserved
 loop-k-preserved c =
