@@ -1,12 +1,22 @@
 //! What follows from the definitions alone.
 ghost use Rattle.std.specs.Prelude.{◌≡◌, ℕ, ℤ, List, length, map};
 ghost use Rattle.pt_core.specs.declared.piece.Piece.{Piece};
+ghost use Rattle.pt_core.specs.declared.path.Path.{Path};
 ghost use Rattle.pt_core.specs.declared.point.Point.{Point};
+ghost use Rattle.pt_core.specs.declared.settings.Settings.{Settings};
 ghost use Rattle.corner_smooth.specs.Corner.{pieces_of};
 ghost use Rattle.curve_join.specs.Choice.{IsBestJoin};
 ghost use Rattle.curve_join.specs.Outline.{outline};
 ghost use Rattle.vertex_adjust.specs.Vertex.{AreVertices};
+ghost use Rattle.page_trace.specs.Inner.Drawing.{IsOutlineAlong};
+ghost use Rattle.path_copies.specs.Copy.{IsCopy};
 ghost use Rattle.outline_copies.specs.Moved.{AreMoved, in_units, moved_by, piece_moved_by};
+
+/// Two paths are copies of each other exactly where the one is the other, moved by whole pixels.
+pub fn copies_are_moved()
+    ensures moved { (points other : List Point) → IsCopy points other → (right : ℤ) × (up : ℤ) × AreMoved right up points other }
+    ensures copies { (right up : ℤ) (points other : List Point) → AreMoved right up points other → IsCopy points other }
+{}
 
 /// The vertices of a copy's polygon are those of the path's, moved by as much.
 pub fn copies_have_moved_vertices()
@@ -26,4 +36,11 @@ pub fn moved_outlines_have_moved_joins()
     ensures { (right up : ℤ) (tol : ℕ) (vertices : List Point) (pieces joined : List Piece)
         → length pieces ≡ length vertices → IsBestJoin tol (outline vertices pieces) joined
         → IsBestJoin tol (outline (map (moved_by right up) vertices) (map (piece_moved_by right up) pieces)) (map (piece_moved_by right up) joined) }
+{}
+
+/// The outline of a path that is a copy of another is the other's, moved by as much, under the same settings.
+pub fn copies_have_moved_outlines()
+    ensures { (settings : Settings) (right up : ℤ) (path other : Path) (pieces : List Piece)
+        → AreMoved right up path.points other.points → IsOutlineAlong settings path pieces
+        → IsOutlineAlong settings other (map (piece_moved_by (in_units right) (in_units up)) pieces) }
 {}
