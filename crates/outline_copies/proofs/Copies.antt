@@ -21,8 +21,7 @@ by_the_first a b c d same = omega (arith, ints)
 pub copy_moved : (points other : List Point) → IsCopy points other → (right : ℤ) × (up : ℤ) × AreMoved right up points other
 copy_moved points other copy =
     let p = point_at points 0 in
-    let q = point_at other 0 in
-    (
+    let q = point_at other 0 in (
       q.x -ℤ p.x,
       q.y -ℤ p.y,
       record {

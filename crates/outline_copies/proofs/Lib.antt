@@ -8,3 +8,4 @@ pub mod Runs
 pub mod Joins
 pub mod Copies
 pub mod Outlines
+mod Examples

@@ -77,13 +77,22 @@ round_moved false settings right up vertices pieces is =
     (sym (pieces_moved right up settings.alphamax vertices))
     (joins_moved right up (tolerance_of settings.tolerance) vertices smooth one_each pieces is)
 
+pub same_polygon : (settings : Settings) (right up : ℤ) (path other : Path) (polygon : Polygon) → AreMoved right up path.points other.points
+    → IsPolygonOf settings path polygon → IsPolygonOf settings other polygon
+same_polygon settings right up path other polygon moved is =
+    polygon_too settings.cyclic path other polygon (moved_copy right up path.points other.points moved) is
+
+pub outline_moved_round : (settings : Settings) (right up : ℤ) (vertices : List Point) (pieces : List Piece) → IsOutlineOf settings vertices pieces
+    → IsOutlineOf settings (map (moved_by right up) vertices) (map (piece_moved_by right up) pieces)
+outline_moved_round settings right up vertices pieces is = round_moved settings.long_curve settings right up vertices pieces is
+
 pub outline_moved_along : (settings : Settings) (right up : ℤ) (path other : Path) (pieces : List Piece)
     → AreMoved right up path.points other.points → IsOutlineAlong settings path pieces
     → IsOutlineAlong settings other (map (piece_moved_by (in_units right) (in_units up)) pieces)
 outline_moved_along settings right up path other pieces moved is = record {
   polygon = is.polygon;
   vertices = map (moved_by (in_units right) (in_units up)) is.vertices;
-  fitted = polygon_too settings.cyclic path other is.polygon (moved_copy right up path.points other.points moved) is.fitted;
+  fitted = same_polygon settings right up path other is.polygon moved is.fitted;
   adjusted = vertices_moved right up path.points other.points (is.polygon).at is.vertices moved is.adjusted;
-  round = round_moved settings.long_curve settings (in_units right) (in_units up) is.vertices pieces is.round;
+  round = outline_moved_round settings (in_units right) (in_units up) is.vertices pieces is.round;
 }
