@@ -1,2 +1,3 @@
+pub mod Comparing
 pub mod Same
 mod Examples
