@@ -6,3 +6,6 @@ pub mod Bends
 pub mod Cubics
 pub mod Runs
 pub mod Joins
+pub mod Copies
+pub mod Outlines
+mod Examples
