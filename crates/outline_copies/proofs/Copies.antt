@@ -1,5 +1,5 @@
 -- Copies of paths are paths that are moved.
-use Rattle.std.proofs.Common.{◌≡◌, ℕ, ℤ, ◌+ℤ◌, ◌-ℤ◌, List, sym, arith}
+use Rattle.std.proofs.Common.{◌≡◌, ℤ, ◌+ℤ◌, ◌-ℤ◌, List, sym, arith}
 use Rattle.std.proofs.lemmas.Int.{ints}
 use Rattle.pt_core.specs.ClosedWalk.{point_at}
 use Rattle.pt_core.specs.declared.point.Point.{Point}
@@ -18,9 +18,9 @@ moved_copy right up points other moved = record {
 by_the_first : (a b c d : ℤ) → b -ℤ a ≡ d -ℤ c → d ≡ b +ℤ (c -ℤ a)
 by_the_first a b c d same = omega (arith, ints)
 
-pub copy_moved : (points other : List Point) → IsCopy points other
+pub first_moved : (points other : List Point) → IsCopy points other
     → AreMoved ((point_at other 0).x -ℤ (point_at points 0).x) ((point_at other 0).y -ℤ (point_at points 0).y) points other
-copy_moved points other copy =
+first_moved points other copy =
     let p = point_at points 0 in
     let q = point_at other 0 in
     record {
@@ -29,3 +29,7 @@ copy_moved points other copy =
           let y = by_the_first p.y (point_at points k).y q.y (point_at other k).y (copy.above k) in
           λ i. record { x = x i; y = y i });
     }
+
+pub copy_moved : (points other : List Point) → IsCopy points other → (right : ℤ) × (up : ℤ) × AreMoved right up points other
+copy_moved points other copy =
+    ((point_at other 0).x -ℤ (point_at points 0).x, (point_at other 0).y -ℤ (point_at points 0).y, first_moved points other copy)

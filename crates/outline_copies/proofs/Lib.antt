@@ -7,3 +7,4 @@ pub mod Cubics
 pub mod Runs
 pub mod Joins
 pub mod Copies
+mod Examples

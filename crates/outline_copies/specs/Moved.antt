@@ -18,7 +18,8 @@ piece_moved_by right up (Curve first second end al) = Curve (moved_by right up f
 abbrev pub in_units : ℤ → ℤ
 in_units pixels = pos 1024 *ℤ pixels
 
--- the second path has as many points, and each lies so many pixels to the right of the first one's and above it
+-- the second path has as many points as the first, and each lies so many pixels to the right of the first path's point
+-- of its number and so many above it
 pub record AreMoved (right up : ℤ) (points other : List Point) : Type 0 where
   pub count : length other ≡ length points
   pub each : (k : ℕ) → point_at other k ≡ moved_by right up (point_at points k)

@@ -1,19 +1,17 @@
 //! What follows from the definitions alone.
-ghost use Rattle.std.specs.Prelude.{◌≡◌, ◌-ℤ◌, ℕ, ℤ, List, length, map};
-ghost use Rattle.pt_core.specs.ClosedWalk.{point_at};
+ghost use Rattle.std.specs.Prelude.{◌≡◌, ℕ, ℤ, List, length, map};
 ghost use Rattle.pt_core.specs.declared.piece.Piece.{Piece};
 ghost use Rattle.pt_core.specs.declared.point.Point.{Point};
 ghost use Rattle.corner_smooth.specs.Corner.{pieces_of};
 ghost use Rattle.curve_join.specs.Choice.{IsBestJoin};
 ghost use Rattle.curve_join.specs.Outline.{outline};
-ghost use Rattle.path_copies.specs.Copy.{IsCopy};
 ghost use Rattle.vertex_adjust.specs.Vertex.{AreVertices};
+ghost use Rattle.path_copies.specs.Copy.{IsCopy};
 ghost use Rattle.outline_copies.specs.Moved.{AreMoved, in_units, moved_by, piece_moved_by};
 
-/// A copy of a path is the path, moved by as much as the first point; and a path that is moved is a copy.
+/// Two paths are copies of each other exactly where the one is the other, moved by whole pixels.
 pub fn copies_are_moved()
-    ensures moved { (points other : List Point) → IsCopy points other
-        → AreMoved ((point_at other 0).x -ℤ (point_at points 0).x) ((point_at other 0).y -ℤ (point_at points 0).y) points other }
+    ensures moved { (points other : List Point) → IsCopy points other → (right : ℤ) × (up : ℤ) × AreMoved right up points other }
     ensures copies { (right up : ℤ) (points other : List Point) → AreMoved right up points other → IsCopy points other }
 {}
 

@@ -1,5 +1,5 @@
 -- The outline of a moved path.
-use Rattle.std.proofs.Common.{◌≡◌, ℕ, ◌<◌, ℤ, Bool, true, false, List, length, get_or, map, sym, ap, ◌∙◌, subst, arith}
+use Rattle.std.proofs.Common.{◌≡◌, ℕ, ℤ, Bool, true, false, List, length, get_or, map, sym, ap, ◌∙◌, subst, arith}
 use Rattle.std.proofs.lemmas.List.FromFn.{length-map-range_with_len}
 use Rattle.std.specs.List.{All}
 use Rattle.pt_core.specs.declared.path.Path.{Path}
@@ -14,7 +14,8 @@ use Rattle.cyclic_optimal.specs.Cyclic.{IsCyclicPolygon, IsLeastCyclic, once_rou
 use Rattle.corner_smooth.specs.Corner.{corner_piece, pieces_of}
 use Rattle.curve_join.specs.Choice.{IsBestJoin}
 use Rattle.curve_join.specs.Outline.{outline}
-use Rattle.page_trace.specs.Trace.{IsOutlineAlong, IsOutlineWith, IsPolygonWith, tolerance_of}
+use Rattle.page_trace.specs.Inner.Drawing.{IsOutlineAlong}
+use Rattle.page_trace.specs.Trace.{IsOutlineOf, IsOutlineWith, IsPolygonOf, IsPolygonWith, tolerance_of}
 use Rattle.path_copies.specs.Copy.{IsCopy}
 use Rattle.path_copies.proofs.Same.{best_too, copy_back, costs_same, penalties_same, possible_too}
 use Rattle.outline_copies.specs.Moved.{AreMoved, in_units, moved_by, piece_moved_by}
@@ -76,13 +77,22 @@ round_moved false settings right up vertices pieces is =
     (sym (pieces_moved right up settings.alphamax vertices))
     (joins_moved right up (tolerance_of settings.tolerance) vertices smooth one_each pieces is)
 
+pub same_polygon : (settings : Settings) (right up : ℤ) (path other : Path) (polygon : Polygon) → AreMoved right up path.points other.points
+    → IsPolygonOf settings path polygon → IsPolygonOf settings other polygon
+same_polygon settings right up path other polygon moved is =
+    polygon_too settings.cyclic path other polygon (moved_copy right up path.points other.points moved) is
+
+pub outline_moved_round : (settings : Settings) (right up : ℤ) (vertices : List Point) (pieces : List Piece) → IsOutlineOf settings vertices pieces
+    → IsOutlineOf settings (map (moved_by right up) vertices) (map (piece_moved_by right up) pieces)
+outline_moved_round settings right up vertices pieces is = round_moved settings.long_curve settings right up vertices pieces is
+
 pub outline_moved_along : (settings : Settings) (right up : ℤ) (path other : Path) (pieces : List Piece)
     → AreMoved right up path.points other.points → IsOutlineAlong settings path pieces
     → IsOutlineAlong settings other (map (piece_moved_by (in_units right) (in_units up)) pieces)
 outline_moved_along settings right up path other pieces moved is = record {
   polygon = is.polygon;
   vertices = map (moved_by (in_units right) (in_units up)) is.vertices;
-  fitted = polygon_too settings.cyclic path other is.polygon (moved_copy right up path.points other.points moved) is.fitted;
+  fitted = same_polygon settings right up path other is.polygon moved is.fitted;
   adjusted = vertices_moved right up path.points other.points (is.polygon).at is.vertices moved is.adjusted;
-  round = round_moved settings.long_curve settings (in_units right) (in_units up) is.vertices pieces is.round;
+  round = outline_moved_round settings (in_units right) (in_units up) is.vertices pieces is.round;
 }

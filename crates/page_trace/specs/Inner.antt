@@ -1,4 +1,4 @@
 -- What inner contracts alone speak of: no promise rests on it.
 pub mod Document
 pub mod Drawing
-pub mod Known
+pub mod KnownOutlines

@@ -1,7 +1,7 @@
 //! The outlines of paths that are known, moved for their copies.
 ghost use Rattle.std.specs.Prelude.{◌≡◌, ◌<◌, ◌-ℤ◌, [], IfOk, IfSome, length, map};
 ghost use Rattle.outline_copies.specs.Moved.{in_units, moved_by, piece_moved_by};
-ghost use Rattle.page_trace.specs.Inner.Known.{AreTaken};
+ghost use Rattle.page_trace.specs.Inner.KnownOutlines.{AreOfKnown};
 
 use path_copies::{Key, KnownPaths};
 use pt_core::{NoMemory, Path, Piece, Point, Sequence, Settings};
@@ -29,7 +29,7 @@ pub(crate) fn taken(
     points: &[Point],
 ) -> Result<Option<Sequence<Piece>>, NoMemory>
     requires some { 0 < length points.now }
-    ensures { IfOk result (λ found. IfSome found (AreTaken known.now points.now)) }
+    ensures { IfOk result (λ found. IfSome found (AreOfKnown known.now points.now)) }
 {
     let Some(path) = known.find(key, points) else {
         return Ok(None);

@@ -1,9 +1,9 @@
 -- A path and its copy have the same segments and penalties, and so the same best polygon.
-use Rattle.std.proofs.Common.{◌≡◌, ℕ, suc, ◌+◌, ◌-◌, ◌*◌, ◌/◌, ◌≤◌, ℤ, ◌-ℤ◌, ◌*ℤ◌, List, length, ap, sym, subst, ◌∙◌, arith}
+use Rattle.std.proofs.Common.{◌≡◌, ℕ, suc, ◌+◌, ◌-◌, ◌*◌, ◌/◌, ℤ, ◌-ℤ◌, ◌*ℤ◌, List, length, ap, sym, subst, ◌∙◌, arith}
 use Rattle.std.proofs.lemmas.Int.{ints}
 use Rattle.std.proofs.Math.Path.{fun_ext}
 use Rattle.std.specs.Prelude.{unsigned_abs}
-use Rattle.least_walk.specs.LeastWalk.{IsWalk, IsLeast, total_cost, walk_from}
+use Rattle.least_walk.specs.LeastWalk.{IsLeast, total_cost, walk_from}
 use Rattle.pt_core.specs.Root.{root_of}
 use Rattle.pt_core.specs.ClosedWalk.{point_at}
 use Rattle.pt_core.specs.declared.point.Point.{Point}

@@ -21,7 +21,7 @@ pub struct Copies {
 
 impl Model for Copies {
     ghost use Rattle.std.specs.Prelude.{All};
-    ghost use Rattle.path_copies.specs.Inner.Known.{HasPolygon};
+    ghost use Rattle.path_copies.specs.Inner.KnownPaths.{HasPolygon};
 
     ghost Value = { Unit };
 

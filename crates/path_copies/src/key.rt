@@ -2,7 +2,10 @@
 use pt_core::Point;
 
 /// So many points of a path, at most, are a part of its key.
-const PARTS: usize = 8;
+//
+// By eight of them, shapes that differ in a few steps had one key: on a page of printed dots 45 points of 100 were served,
+// and 86 by 32.
+const PARTS: usize = 32;
 
 /// Where copies of a path are looked for, and by what they are told there from most other paths.
 #[derive(Clone, Copy)]
@@ -28,15 +31,19 @@ fn number_of(points: &[Point]) -> u64 {
     let mut number = points.len() as u64;
     if let Some(first) = points.first() {
         for point in points.iter().step_by(points.len() / PARTS + 1) {
-            number = mixed(number, point.x.wrapping_sub(first.x));
-            number = mixed(number, point.y.wrapping_sub(first.y));
+            number = mixed(
+                number,
+                point.x.wrapping_sub(first.x),
+                point.y.wrapping_sub(first.y),
+            );
         }
     }
     number
 }
 
-/// A number that another one is mixed into.
-fn mixed(number: u64, other: i32) -> u64 {
-    let product = (number ^ u64::from(other.cast_unsigned())).wrapping_mul(0x9e37_79b9_7f4a_7c15);
+/// A number that an offset is mixed into.
+fn mixed(number: u64, right: i32, above: i32) -> u64 {
+    let offset = u64::from(right.cast_unsigned()) << 32 | u64::from(above.cast_unsigned());
+    let product = (number ^ offset).wrapping_mul(0x9e37_79b9_7f4a_7c15);
     product ^ product >> 32
 }

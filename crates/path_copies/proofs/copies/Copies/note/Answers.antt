@@ -1,7 +1,7 @@
 use Rattle.std.proofs.Common.{List, sym, subst}
 use Rattle.std.specs.List.{All}
 use Rattle.std.proofs.lemmas.List.Elements.{All-push}
-use Rattle.path_copies.specs.Inner.Known.{HasPolygon}
+use Rattle.path_copies.specs.Inner.KnownPaths.{HasPolygon}
 use Rattle.path_copies.proofs.copies.Copies.note.Goals as goal
 
 -- what is kept more is kept with its polygon

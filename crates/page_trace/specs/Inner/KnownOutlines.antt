@@ -6,7 +6,7 @@ use Rattle.pt_core.specs.declared.point.Point.{Point}
 use Rattle.pt_core.specs.declared.settings.Settings.{Settings}
 use Rattle.path_copies.specs.declared.known.KnownPath.{KnownPath}
 use Rattle.outline_copies.specs.Moved.{AreMoved, in_units, piece_moved_by}
-use Rattle.page_trace.specs.Trace.{IsOutlineAlong}
+use Rattle.page_trace.specs.Inner.Drawing.{IsOutlineAlong}
 
 -- what was found are the pieces of the outline along a path of these points
 pub record HasOutline (settings : Settings) (known : KnownPath (List Piece)) : Type 0 where
@@ -15,7 +15,7 @@ pub record HasOutline (settings : Settings) (known : KnownPath (List Piece)) : T
   pub along : IsOutlineAlong settings path known.found
 
 -- the pieces are those of a known path, moved by as much as these points
-pub record AreTaken (all : List (KnownPath (List Piece))) (points : List Point) (pieces : List Piece) : Type 0 where
+pub record AreOfKnown (all : List (KnownPath (List Piece))) (points : List Point) (pieces : List Piece) : Type 0 where
   pub known : KnownPath (List Piece)
   pub right : ℤ
   pub up : ℤ
