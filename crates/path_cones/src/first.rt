@@ -59,8 +59,7 @@ fn scan_around(track: &Track, first: usize, most: usize) -> Scan
     Scan { steps: most, cone }
 }
 
-/// How far a scan from a point has come: for how many steps, and the cone of the half-lines that come near all points that it
-/// asked.
+/// How far a scan from a point has come: after how many steps it stands, and a cone of points among those.
 #[derive(Clone, Copy)]
 pub struct Scan {
     pub steps: usize,

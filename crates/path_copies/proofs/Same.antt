@@ -75,7 +75,7 @@ module _ (points other : List Point) (copy : IsCopy points other) where
       ∙ ap (λ y. record { x = rightward_of other (i + start) (j + start); y = y }) (above_same (i + start) (j + start))
 
   -- the same segments are possible
-  possible_too : (i j : ℕ) → IsPossible points i j → IsPossible other i j
+  pub possible_too : (i j : ℕ) → IsPossible points i j → IsPossible other i j
   possible_too i j possible = record {
     rises = possible.rises;
     leaves_three = omega (arith, possible.leaves_three, copy.count);
@@ -103,7 +103,7 @@ module _ (points other : List Point) (copy : IsCopy points other) where
   unfolding penalty_of
   penalty_same i j = ap (λ (z : ℤ). root_of (65536 * unsigned_abs z / (j - i + 1))) (spread_same i j)
 
-  costs_same : penalty_of points ≡ penalty_of other
+  pub costs_same : penalty_of points ≡ penalty_of other
   costs_same = fun_ext (λ i. fun_ext (λ j. penalty_same i j))
 
   pub penalties_same : (at : List ℕ) → total_penalty points at ≡ total_penalty other at
