@@ -1,7 +1,11 @@
 -- The outline of a moved path.
-use Rattle.std.proofs.Common.{◌≡◌, ℕ, ℤ, Bool, true, false, List, length, get_or, map, sym, ap, ◌∙◌, subst, arith}
+use Rattle.std.proofs.Common.{◌≡◌, ℕ, ℤ, ◌-ℤ◌, ◌<◌, ◌⊎◌, inl, inr, Bool, true, false, List, [], ◌∷◌, ◌++◌, length, get_or, map, sym, ap, ◌∙◌, subst, arith}
 use Rattle.std.proofs.lemmas.List.FromFn.{length-map-range_with_len}
-use Rattle.std.specs.List.{All}
+use Rattle.std.specs.List.{All, Contains}
+use Rattle.std.specs.Prelude.{slice_index_or}
+use Rattle.std.proofs.lemmas.List.Elements.{All-push}
+use Rattle.std.proofs.Math.Nat.{mod-eq_of_lt}
+use Rattle.pt_core.specs.ClosedWalk.{origin, point_at}
 use Rattle.pt_core.specs.declared.path.Path.{Path}
 use Rattle.pt_core.specs.declared.piece.Piece.{Piece}
 use Rattle.pt_core.specs.declared.point.Point.{Point}
@@ -15,11 +19,13 @@ use Rattle.corner_smooth.specs.Corner.{corner_piece, pieces_of}
 use Rattle.curve_join.specs.Choice.{IsBestJoin}
 use Rattle.curve_join.specs.Outline.{outline}
 use Rattle.page_trace.specs.Inner.Drawing.{IsOutlineAlong}
+use Rattle.page_trace.specs.Inner.KnownOutlines.{AreOfKnown, HasOutline}
 use Rattle.page_trace.specs.Trace.{IsOutlineOf, IsOutlineWith, IsPolygonOf, IsPolygonWith, tolerance_of}
 use Rattle.path_copies.specs.Copy.{IsCopy}
 use Rattle.path_copies.proofs.Same.{best_too, copy_back, costs_same, penalties_same, possible_too}
 use Rattle.outline_copies.specs.Moved.{AreMoved, in_units, moved_by, piece_moved_by}
-use Rattle.outline_copies.proofs.Copies.{moved_copy}
+use Rattle.path_copies.specs.declared.known.KnownPath.{KnownPath}
+use Rattle.outline_copies.proofs.Copies.{first_moved, moved_copy}
 use Rattle.outline_copies.proofs.Joins.{joins_moved}
 use Rattle.outline_copies.proofs.Pieces.{pieces_moved}
 use Rattle.outline_copies.proofs.Vertices.{vertices_moved}
@@ -96,3 +102,51 @@ outline_moved_along settings right up path other pieces moved is = record {
   adjusted = vertices_moved right up path.points other.points (is.polygon).at is.vertices moved is.adjusted;
   round = outline_moved_round settings (in_units right) (in_units up) is.vertices pieces is.round;
 }
+
+-- ---- what is known of other paths
+
+-- pieces that are taken from a known path go along this one
+pub taken_along : (settings : Settings) (path : Path) (all : List (KnownPath (List Piece))) (points : List Point) (pieces : List Piece)
+    → points ≡ path.points → All (HasOutline settings) all → AreOfKnown all points pieces → IsOutlineAlong settings path pieces
+taken_along settings path all points pieces of_path have taken =
+    let one : HasOutline settings taken.known = subst (HasOutline settings) taken.among.2 (have taken.among.0 taken.known taken.among.1) in
+    let move : AreMoved taken.right taken.up (one.path).points path.points =
+    subst (λ (ps : List Point). AreMoved taken.right taken.up ps path.points) (sym one.points)
+    (subst (λ (ps : List Point). AreMoved taken.right taken.up (taken.known).points ps) of_path taken.are_moved) in
+    subst (IsOutlineAlong settings path) (sym taken.is)
+    (outline_moved_along settings taken.right taken.up one.path path (taken.known).found move one.along)
+
+-- and what is kept of it has its outline
+pub known_more : (settings : Settings) (path : Path) (before after : List (KnownPath (List Piece))) (points : List Point) (pieces : List Piece)
+    → points ≡ path.points → IsOutlineAlong settings path pieces → All (HasOutline settings) before
+    → (after ≡ before) ⊎ (after ≡ before ++ record { points = points; found = pieces } ∷ []) → All (HasOutline settings) after
+known_more settings path before after points pieces of_path along have (inl same) = subst (All (HasOutline settings)) (sym same) have
+known_more settings path before after points pieces of_path along have (inr more) =
+    subst (All (HasOutline settings)) (sym more)
+    (All-push (HasOutline settings) before (record { points = points; found = pieces }) have (record { path = path; points = sym of_path; along = along }))
+
+-- the first point of a path that is a copy lies as far from the known one's
+first_of : (points : List Point) → 0 < length points → point_at points 0 ≡ slice_index_or points 0 origin
+first_of points some = ap (λ n. slice_index_or points n origin) (mod-eq_of_lt some)
+
+pub of_known : (all : List (KnownPath (List Piece))) (known : KnownPath (List Piece)) (start points : List Point) (pieces : List Piece) (right up : ℤ)
+    → 0 < length points → start ≡ known.points → Contains all known → IsCopy known.points points
+    → right ≡ in_units ((slice_index_or points 0 origin).x -ℤ (slice_index_or start 0 origin).x)
+    → up ≡ in_units ((slice_index_or points 0 origin).y -ℤ (slice_index_or start 0 origin).y)
+    → pieces ≡ map (piece_moved_by right up) known.found → AreOfKnown all points pieces
+of_known all known start points pieces right up some of_path among copy is_right is_up is =
+    let here = sym (first_of points some) in
+    let there = ap (λ (ps : List Point). slice_index_or ps 0 origin) of_path ∙ sym (first_of known.points (omega (arith, copy.count, some))) in
+    let far_right : right ≡ in_units ((point_at points 0).x -ℤ (point_at known.points 0).x) =
+        is_right ∙ ap (λ (p : Point). in_units (p.x -ℤ (slice_index_or start 0 origin).x)) here ∙ ap (λ (p : Point). in_units ((point_at points 0).x -ℤ p.x)) there in
+    let far_up : up ≡ in_units ((point_at points 0).y -ℤ (point_at known.points 0).y) =
+        is_up ∙ ap (λ (p : Point). in_units (p.y -ℤ (slice_index_or start 0 origin).y)) here ∙ ap (λ (p : Point). in_units ((point_at points 0).y -ℤ p.y)) there in
+    record {
+      known = known;
+      right = (point_at points 0).x -ℤ (point_at known.points 0).x;
+      up = (point_at points 0).y -ℤ (point_at known.points 0).y;
+      among = among;
+      are_moved = first_moved known.points points copy;
+      is = is ∙ ap (λ r. map (piece_moved_by r up) known.found) far_right
+          ∙ ap (λ u. map (piece_moved_by (in_units ((point_at points 0).x -ℤ (point_at known.points 0).x)) u) known.found) far_up;
+    }

@@ -35,34 +35,40 @@ pub(crate) fn taken(
         return Ok(None);
     };
     let start = path.points.as_slice();
-    let Some(right) = units_between(start[0].x, points[0].x) else {
+    let Some(by) = way_between(start[0], points[0]) else {
         return Ok(None);
     };
-    let Some(up) = units_between(start[0].y, points[0].y) else {
-        return Ok(None);
-    };
-    moved_pieces(alloc, path.found.as_slice(), right, up)
+    moved_pieces(alloc, path.found.as_slice(), by)
 }
 
-/// How many units of 1/1024 pixel there are from one coordinate in pixels to another, if they can be told.
-fn units_between(from: i32, to: i32) -> Option<i32>
-    ensures { IfSome result (λ units. units ≡ in_units (to -ℤ from)) }
+/// How far an outline is moved, in units of 1/1024 pixel.
+#[derive(Clone, Copy)]
+struct Way {
+    right: i32,
+    up: i32,
+}
+
+/// How far it is from one point of a path to another, if that can be told.
+fn way_between(from: Point, to: Point) -> Option<Way>
+    ensures right { IfSome result (λ by. by.right ≡ in_units (to.x -ℤ from.x)) }
+    ensures up { IfSome result (λ by. by.up ≡ in_units (to.y -ℤ from.y)) }
 {
-    to.checked_sub(from)?.checked_mul(1024)
+    let right = to.x.checked_sub(from.x)?.checked_mul(1024)?;
+    let up = to.y.checked_sub(from.y)?.checked_mul(1024)?;
+    Some(Way { right, up })
 }
 
-/// The pieces, moved by so many units, if their places can be told.
+/// The pieces, moved so far, if their places can be told.
 fn moved_pieces(
     alloc: Global,
     pieces: &[Piece],
-    right: i32,
-    up: i32,
+    by: Way,
 ) -> Result<Option<Sequence<Piece>>, NoMemory>
-    ensures { IfOk result (λ found. IfSome found (λ moved. moved ≡ map (piece_moved_by right up) pieces.now)) }
+    ensures { IfOk result (λ found. IfSome found (λ moved. moved ≡ map (piece_moved_by by.right by.up) pieces.now)) }
 {
     let mut list = Vec::with_capacity(alloc, pieces.len())?;
     for piece in pieces {
-        let Some(moved) = moved_piece(*piece, right, up) else {
+        let Some(moved) = moved_piece(*piece, by) else {
             return Ok(None);
         };
         list.push(moved)?;
@@ -70,14 +76,14 @@ fn moved_pieces(
     Ok(Some(Sequence::from_vec(list)))
 }
 
-/// The piece, moved by so many units, if its places can be told.
-fn moved_piece(piece: Piece, right: i32, up: i32) -> Option<Piece>
-    ensures { IfSome result (λ moved. moved ≡ piece_moved_by right up piece) }
+/// The piece, moved so far, if its places can be told.
+fn moved_piece(piece: Piece, by: Way) -> Option<Piece>
+    ensures { IfSome result (λ moved. moved ≡ piece_moved_by by.right by.up piece) }
 {
     match piece {
         Piece::Corner { at, end } => {
-            let at = moved_place(at, right, up)?;
-            let end = moved_place(end, right, up)?;
+            let at = moved_place(at, by)?;
+            let end = moved_place(end, by)?;
             Some(Piece::Corner { at, end })
         }
         Piece::Curve {
@@ -86,9 +92,9 @@ fn moved_piece(piece: Piece, right: i32, up: i32) -> Option<Piece>
             end,
             al,
         } => {
-            let first = moved_place(first, right, up)?;
-            let second = moved_place(second, right, up)?;
-            let end = moved_place(end, right, up)?;
+            let first = moved_place(first, by)?;
+            let second = moved_place(second, by)?;
+            let end = moved_place(end, by)?;
             Some(Piece::Curve {
                 first,
                 second,
@@ -99,11 +105,11 @@ fn moved_piece(piece: Piece, right: i32, up: i32) -> Option<Piece>
     }
 }
 
-/// The place, moved by so many units, if it can be told.
-fn moved_place(place: Point, right: i32, up: i32) -> Option<Point>
-    ensures { IfSome result (λ moved. moved ≡ moved_by right up place) }
+/// The place, moved so far, if it can be told.
+fn moved_place(place: Point, by: Way) -> Option<Point>
+    ensures { IfSome result (λ moved. moved ≡ moved_by by.right by.up place) }
 {
-    let x = place.x.checked_add(right)?;
-    let y = place.y.checked_add(up)?;
+    let x = place.x.checked_add(by.right)?;
+    let y = place.y.checked_add(by.up)?;
     Some(Point { x, y })
 }
