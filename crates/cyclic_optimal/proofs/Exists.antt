@@ -6,7 +6,7 @@ use Rattle.std.proofs.lemmas.List.Elements.{All-head}
 use Rattle.pt_core.specs.ClosedWalk.{IsClosedWalk}
 use Rattle.pt_core.specs.declared.point.Point.{Point}
 use Rattle.straight_paths.specs.Straight.{IsPossible}
-use Rattle.straight_paths.proofs.Decided.{is_possible}
+use Rattle.path_cones.proofs.Decided.{is_possible}
 use Rattle.straight_paths.proofs.Far.{step_possible}
 use Rattle.std.specs.declared.cmp.Ordering.TheVariants.{Less}
 use Rattle.least_walk.specs.LeastWalk.{step_count, total_cost, IsBefore, IsLeast, IsWalk}

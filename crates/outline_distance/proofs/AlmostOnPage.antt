@@ -24,7 +24,7 @@ use Rattle.bit_image.specs.Page.{IsPage, Page}
 use Rattle.path_decompose.specs.Bounds.{IsCornerOf}
 use Rattle.path_decompose.specs.Inner.Bounds.{IsPathOn}
 use Rattle.path_decompose.proofs.PathOn.{page_paths_on}
-use Rattle.straight_paths.proofs.Signs.{product_at_least}
+use Rattle.path_cones.proofs.Signs.{product_at_least}
 use Rattle.vertex_adjust.specs.Vertex.{AreVertices, IsCandidate, moved}
 use Rattle.vertex_adjust.specs.declared.shift.Shift.{Shift}
 use Rattle.corner_smooth.specs.Corner.{al_of, control_of, corner_piece, curve_of, is_corner, middle_of, part_of, piece_of, pieces_of, sharpness_of}

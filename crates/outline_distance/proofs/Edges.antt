@@ -9,7 +9,7 @@ use Rattle.pt_core.specs.declared.point.Point.{Point}
 use Rattle.pt_core.proofs.Terms.{same_value}
 use Rattle.pt_core.proofs.Terms.Term.{num, plus, less, times, opposite}
 use Rattle.straight_paths.specs.Straight.{IsPossible}
-use Rattle.straight_paths.proofs.Signs.{product_at_least, factor_at_least}
+use Rattle.path_cones.proofs.Signs.{product_at_least, factor_at_least}
 use Rattle.outline_distance.proofs.Levels.{compared}
 use Rattle.outline_distance.proofs.Halves.{IsNearBoth, below, above, sum_at_least, not_below}
 use Rattle.outline_distance.proofs.Middles.{IsUnitIn, near_turned_x, near_turned_y, unit_turned_x, unit_turned_y, up_both, either_way, both_near}

@@ -5,7 +5,7 @@ use Rattle.std.proofs.lemmas.Bool.{cases_lt}
 use Rattle.pt_core.proofs.Terms.{same_value}
 use Rattle.pt_core.proofs.Terms.Term.{num, plus, less, times}
 use Rattle.straight_paths.specs.Straight.{StaysWithin}
-use Rattle.straight_paths.proofs.Signs.{factor_at_least}
+use Rattle.path_cones.proofs.Signs.{factor_at_least}
 use Rattle.outline_distance.proofs.Levels.{passed, compared}
 
 pub record IsNearIn (d e : ℤ) : Type 0 where

@@ -5,7 +5,7 @@ use Rattle.std.specs.Prelude.{unsigned_abs}
 use Rattle.pt_core.proofs.Terms.{same_value}
 use Rattle.pt_core.proofs.Terms.Term.{num, plus, less, times, opposite}
 use Rattle.straight_paths.specs.Straight.{StaysWithin}
-use Rattle.straight_paths.proofs.Signs.{product_at_least, factor_at_least, factor_positive}
+use Rattle.path_cones.proofs.Signs.{product_at_least, factor_at_least, factor_positive}
 
 -- half of a number that isn't negative, rounded down
 pub record IsRoundedHalf (n h : ℤ) : Type 0 where

@@ -11,7 +11,7 @@ use Rattle.pt_core.specs.declared.point.Point.{Point}
 use Rattle.pt_core.proofs.Terms.{same_value}
 use Rattle.pt_core.proofs.Terms.Term.{num, plus, less, times}
 use Rattle.dxf_geojson.specs.Chords.{chord_points, curve_point, curve_points, mean_of, piece_points, points_from}
-use Rattle.straight_paths.proofs.Signs.{product_at_least}
+use Rattle.path_cones.proofs.Signs.{product_at_least}
 use Rattle.outline_distance.specs.Curves.{curve_place}
 use Rattle.outline_distance.specs.Distance.{divided}
 use Rattle.outline_distance.specs.Pages.{IsAlmostOn, IsAlmostOnPage, OfPoints}

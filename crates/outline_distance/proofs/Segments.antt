@@ -5,7 +5,7 @@ use Rattle.std.proofs.lemmas.Bool.{cases_lt}
 use Rattle.pt_core.specs.ClosedWalk.{point_at}
 use Rattle.pt_core.specs.declared.point.Point.{Point}
 use Rattle.straight_paths.specs.Straight.{IsPossible, IsNear, StaysWithin, vector_of, path_from}
-use Rattle.straight_paths.proofs.Cyclic.{lap_on}
+use Rattle.path_cones.proofs.Cyclic.{lap_on}
 
 place_on : (points : List Point) (i k : ℕ) → 1 ≤ length points → i ≤ k
     → path_from points (i + (length points - 1)) (k - i + 1) ≡ point_at points k

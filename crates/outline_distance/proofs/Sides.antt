@@ -8,7 +8,7 @@ use Rattle.pt_core.specs.ClosedWalk.{IsClosedWalk, point_at, origin}
 use Rattle.pt_core.specs.Floor.{floor_of}
 use Rattle.pt_core.specs.declared.point.Point.{Point}
 use Rattle.pt_core.proofs.Sizes.{product_most}
-use Rattle.straight_paths.proofs.Cyclic.{lap_on}
+use Rattle.path_cones.proofs.Cyclic.{lap_on}
 use Rattle.straight_paths.specs.Straight.{IsPossible}
 use Rattle.polygon_optimal.specs.Polygon.{IsSegment}
 use Rattle.polygon_optimal.proofs.Vertices.{vertices_below}

@@ -8,7 +8,7 @@ use Rattle.pt_core.specs.declared.point.Point.{Point}
 use Rattle.pt_core.proofs.Terms.{same_value}
 use Rattle.pt_core.proofs.Terms.Term.{num, plus, less, times, opposite}
 use Rattle.straight_paths.specs.Straight.{IsPossible, StaysWithin}
-use Rattle.straight_paths.proofs.Signs.{factor_at_least}
+use Rattle.path_cones.proofs.Signs.{factor_at_least}
 use Rattle.outline_distance.proofs.Levels.{compared}
 use Rattle.outline_distance.proofs.Segments.{triple, half_line}
 use Rattle.outline_distance.proofs.Ends.{IsNearIn, opened, no_farther}

@@ -26,6 +26,3 @@ pub mod Area
 pub mod Noted
 pub mod Runs
 mod Examples
--- The laws of differences, and the lines from a corner of a path on.
-pub use Rattle.boundary_edges.proofs.Differ
-pub use Rattle.boundary_edges.proofs.Corners

@@ -13,7 +13,7 @@ use Rattle.path_decompose.specs.Bounds.{IsCornerOf}
 use Rattle.path_decompose.specs.Inside.{is_crossed, line_at, line_between}
 use Rattle.path_decompose.specs.GridEdges.{GridEdge, upright, level}
 use Rattle.path_decompose.specs.Inner.GridEdges.{place_of, IsLineOn}
-use Rattle.path_decompose.proofs.Differ.{differ-false, differ_swap}
+use Rattle.boundary_edges.proofs.Differ.{differ-false, differ_swap}
 use Rattle.point_fill.specs.Inner.Swept.{odd_below, swept, AreMarked}
 
 pub odd_below-differ : (f g : ℕ → Bool) (n : ℕ) → odd_below (λ k. differ (f k) (g k)) n ≡ differ (odd_below f n) (odd_below g n)

@@ -6,7 +6,7 @@ use Rattle.std.specs.Prelude.{slice_index}
 use Rattle.pt_core.specs.declared.point.Point.{Point}
 use Rattle.pt_core.specs.ClosedWalk.{point_at}
 use Rattle.straight_paths.specs.Straight.{IsPossible, IsStraight, path_from}
-use Rattle.straight_paths.proofs.Pieces.{rest_of, without_first}
+use Rattle.path_cones.proofs.Pieces.{rest_of, without_first}
 use Rattle.polygon_optimal.specs.Inner.Lasts.{HasLasts, AreRising}
 
 -- a possible segment stays so without its first step

@@ -12,7 +12,7 @@ use Rattle.pt_core.proofs.Roots.{root_below}
 use Rattle.pt_core.proofs.Sizes.{product_most}
 use Rattle.prefix_moments.specs.Sums.{IsPenalty, sum_of, spread_of, chord_cross_of}
 use Rattle.straight_paths.specs.Straight.{IsPossible}
-use Rattle.straight_paths.proofs.Along.{cross_most}
+use Rattle.path_cones.proofs.Along.{cross_most}
 use Rattle.least_walk.specs.LeastWalk.{Step, steps_from}
 use Rattle.polygon_optimal.specs.Inner.OnePenalty.{mean_most, penalty_is}
 use Rattle.polygon_optimal.specs.Polygon.{IsPolygon, IsSegment, penalty_of, total_penalty}
