@@ -138,9 +138,9 @@ of_known all known start points pieces right up some of_path among copy is_right
     let here = sym (first_of points some) in
     let there = ap (λ (ps : List Point). slice_index_or ps 0 origin) of_path ∙ sym (first_of known.points (omega (arith, copy.count, some))) in
     let far_right : right ≡ in_units ((point_at points 0).x -ℤ (point_at known.points 0).x) =
-        is_right ∙ ap (λ (p : Point). in_units (p.x -ℤ (slice_index_or start 0 origin).x)) here ∙ ap (λ (p : Point). in_units ((point_at points 0).x -ℤ p.x)) there in
+    is_right ∙ ap (λ (p : Point). in_units (p.x -ℤ (slice_index_or start 0 origin).x)) here ∙ ap (λ (p : Point). in_units ((point_at points 0).x -ℤ p.x)) there in
     let far_up : up ≡ in_units ((point_at points 0).y -ℤ (point_at known.points 0).y) =
-        is_up ∙ ap (λ (p : Point). in_units (p.y -ℤ (slice_index_or start 0 origin).y)) here ∙ ap (λ (p : Point). in_units ((point_at points 0).y -ℤ p.y)) there in
+    is_up ∙ ap (λ (p : Point). in_units (p.y -ℤ (slice_index_or start 0 origin).y)) here ∙ ap (λ (p : Point). in_units ((point_at points 0).y -ℤ p.y)) there in
     record {
       known = known;
       right = (point_at points 0).x -ℤ (point_at known.points 0).x;
