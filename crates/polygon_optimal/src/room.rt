@@ -1,6 +1,7 @@
 //! Room for the lists that a search takes.
 ghost use Rattle.std.specs.Prelude.{◌≤◌, length, OnOk};
 
+use crate::bounds::Bound;
 use prefix_moments::{Moments, MomentsRoom};
 use pt_core::NoMemory;
 use std::alloc::Global;
@@ -18,6 +19,8 @@ pub(crate) struct SearchRoom {
     pub(crate) costs: Vec<u64>,
     pub(crate) nexts: Vec<u32>,
     pub(crate) farthest: Vec<u32>,
+    pub(crate) begins: Vec<u32>,
+    pub(crate) bounds: Vec<Bound>,
     /// The list of the sums.
     moments: MomentsRoom,
 }
@@ -29,6 +32,8 @@ impl SearchRoom {
             costs: Vec::new(alloc),
             nexts: Vec::new(alloc),
             farthest: Vec::new(alloc),
+            begins: Vec::new(alloc),
+            bounds: Vec::new(alloc),
             moments: MomentsRoom::new(alloc),
         }
     }

@@ -12,6 +12,7 @@
 //! ```
 ghost use Rattle.std.specs.Prelude.{◌≡◌, ℕ, ◌+◌, ◌-◌, ◌^◌, ◌<◌, ◌≤◌, length, slice_index, unsigned_abs, IfOk, OnOk};
 ghost use Rattle.std.specs.Int.{IsPowerOfTwo};
+ghost use Rattle.pt_core.specs.ClosedWalk.{IsClosedWalk};
 ghost use Rattle.least_walk.specs.LeastWalk.{IsLeast, walk_from, step_count, total_cost};
 ghost use Rattle.least_walk.specs.Inner.Suffix.{HasNexts, IsFewestFrom, IsLeastCost};
 ghost use Rattle.polygon_optimal.specs.Inner.Lasts.{IsUpToLast};
@@ -21,6 +22,7 @@ ghost use Rattle.polygon_optimal.specs.Inner.Search.{AreEnoughSlots, AreKept, Ar
 
 use crate::room::{SearchRoom, make_places};
 use crate::segments::Segments;
+use crate::within::least_by_bounds;
 use least_walk::Walk;
 use prefix_moments::{Growing, Receding, Roots};
 use pt_core::{NoMemory, Sequence};
@@ -30,16 +32,19 @@ use std::alloc::Global;
 /// more than the roots that it saves.
 const WIDE: u32 = 12;
 
+/// Where so many costs are kept, windows may be so wide that bounds are worth their price.
+const BENDING: usize = 1 << 8;
+
 /// A segment to go on by.
 //
 // What it costs has 64 bits, where `least` takes 128: the contract of `Steps` allows a penalty to 2^56, so a sum of 2^31
 // of them needs 87 bits; but the penalty of a possible segment is below 2^24.
 #[derive(Clone, Copy)]
-struct Onward {
+pub(crate) struct Onward {
     /// What the polygon costs from this segment on to the end: less than 2^56.
-    cost: u64,
+    pub(crate) cost: u64,
     /// Where the segment leads.
-    next: u32,
+    pub(crate) next: u32,
 }
 
 /// The same as `least` finds.
@@ -58,6 +63,7 @@ pub(crate) fn least_by_windows(
     roots: &mut Roots,
     room: &mut SearchRoom,
 ) -> Result<Walk, NoMemory>
+    requires closed { IsClosedWalk segments.now.moments.now }
     ensures least { IfOk result (λ walk. IsLeast (length segments.now.moments.now)
         (IsUpToLast segments.now.lasts.items) (penalty_of segments.now.moments.now)
         (walk_from walk.at (length segments.now.moments.now))) }
@@ -74,13 +80,28 @@ pub(crate) fn least_by_windows(
     make_places(&mut room.nexts, places, 0u32)?;
     fill_farthest(segments, &mut room.farthest)?;
     let costs = &mut room.costs[..slots];
+    if BENDING <= slots {
+        let found = least_by_bounds(
+            alloc,
+            segments,
+            &room.farthest,
+            costs,
+            &mut room.nexts,
+            &mut room.begins,
+            &mut room.bounds,
+            roots,
+        )?;
+        if let Some(walk) = found {
+            return Ok(walk);
+        }
+    }
     fill_costs(segments, &room.farthest, costs, &mut room.nexts, roots);
     let count = (room.farthest.len() - 1) as u32;
     walk_along(alloc, segments, count, costs[0], &room.nexts)
 }
 
 /// The walk that begins at 0 and goes on by `nexts`, where the whole of it has so many segments and costs so much.
-fn walk_along(
+pub(crate) fn walk_along(
     alloc: Global,
     segments: &Segments,
     count: u32,
@@ -147,7 +168,7 @@ fn enough_slots(segments: &Segments) -> usize
 //
 // Points of one slot are farther apart than a segment is long. So when a point is looked at, each of those
 // that a segment leads to has its slot for itself. As there are a power of two of them, one is found without a division.
-fn slot(costs: &[u64], point: usize) -> usize
+pub(crate) fn slot(costs: &[u64], point: usize) -> usize
     requires { IsPowerOfTwo (length costs.now) }
     ensures { result ≡ slot_of (length costs.now) point }
 {
@@ -227,7 +248,7 @@ fn fill_window(
 //
 // The walk's end is a window of its own and a point of its second lap.
 #[inline(always)]
-fn nearest_from<'a>(segments: &Segments<'a>, from: u32, begin: u32) -> Receding<'a>
+pub(crate) fn nearest_from<'a>(segments: &Segments<'a>, from: u32, begin: u32) -> Receding<'a>
     requires from { from < length segments.now.moments.now }
     requires onwards { from < begin }
     requires reached { begin ≤ slice_index segments.now.lasts.items from }
@@ -245,7 +266,7 @@ fn nearest_from<'a>(segments: &Segments<'a>, from: u32, begin: u32) -> Receding<
 //
 // A window is mostly narrow: from the nearest point on, one segment grows from point to point. The walk's end is a window
 // of its own, so nothing that is said of laps is asked later.
-fn cheapest_from(
+pub(crate) fn cheapest_from(
     segments: &Segments,
     nearest: Receding,
     guess: u32,

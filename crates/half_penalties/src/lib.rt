@@ -1,0 +1,6 @@
+//! What the two halves of a segment add to its penalty at least.
+#![tactic(auto)]
+
+pub mod halves;
+
+pub use halves::Halves;
