@@ -12,4 +12,5 @@ pub mod Slots
 pub mod Small
 pub mod Stepping
 pub mod Vertices
+pub mod Windowed
 mod Examples

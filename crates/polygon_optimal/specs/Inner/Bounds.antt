@@ -1,5 +1,5 @@
 -- What is known of the vertices of polygons before the search.
-use Rattle.std.specs.Prelude.{◌≡◌, ℕ, ◌+◌, ◌<◌, ◌≤◌, ◌^◌, List, length, slice_index, slice_index_or}
+use Rattle.std.specs.Prelude.{◌≡◌, ℕ, ◌+◌, ◌-◌, ◌<◌, ◌≤◌, ◌^◌, List, length, slice_index, slice_index_or}
 use Rattle.polygon_optimal.specs.declared.bounds.Bound.{Bound}
 use Rattle.polygon_optimal.specs.Inner.Search.{AreWindowEnds, BeginsWindow, counts_of}
 
@@ -36,6 +36,6 @@ pub record AreBoundsOf (lasts begins farthest : List ℕ) (cost : ℕ → ℕ �
       → slice_index begins (window + 1) ≤ j → j ≤ slice_index lasts i
       → IsJoined (cost i j) (bound_at bounds i) (bound_at bounds j)
 
--- and of all segments between windows
+-- and of all segments between windows: none leads beyond the last one
 abbrev pub AreBounds : List ℕ → List ℕ → List ℕ → (ℕ → ℕ → ℕ) → List Bound → Type 0
-AreBounds lasts begins farthest cost bounds = AreBoundsOf lasts begins farthest cost (length farthest) bounds
+AreBounds lasts begins farthest cost bounds = AreBoundsOf lasts begins farthest cost (length farthest - 1) bounds
