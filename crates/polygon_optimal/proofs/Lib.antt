@@ -2,6 +2,8 @@ pub mod Best
 pub mod Counting
 pub mod Exists
 pub mod Greedy
+pub mod Halving
+pub mod Joining
 pub mod Leasts
 pub mod Opening
 pub mod Placing
@@ -11,6 +13,7 @@ pub mod Scanning
 pub mod Slots
 pub mod Small
 pub mod Stepping
+pub mod Together
 pub mod Vertices
 pub mod Windowed
 mod Examples
