@@ -59,6 +59,22 @@ changed_both is_change begin middle end before between after up on first then = 
   ];
 }
 
+-- points were changed, and some of them again, which is no other change
+pub changed_again : (is_change is_other : ℕ → Bound → Bound → Type 0) (begin middle end : ℕ) (before between after : List Bound) → middle ≤ end
+    → ((k : ℕ) → (a b c : Bound) → is_change k a b → is_other k b c → is_change k a c)
+    → AreChanged is_change begin end before between → AreChanged is_other begin middle between after → AreChanged is_change begin end before after
+changed_again is_change is_other begin middle end before between after within both first then = record {
+  places = then.places ∙ first.places;
+  others = λ k outside. elim outside [
+    | inl below ↦ then.others k (inl below) ∙ first.others k (inl below)
+    | inr above ↦ then.others k (inr (omega arith)) ∙ first.others k (inr above)
+  ];
+  changed = λ k above below. elim (cases_lt k middle) [
+    | inl early ↦ both k (bound_at before k) (bound_at between k) (bound_at after k) (first.changed k above below) (then.changed k above early)
+    | inr late ↦ subst (is_change k (bound_at before k)) (sym (then.others k (inr late))) (first.changed k above below)
+  ];
+}
+
 -- what holds of each changed point, and of one that stays as it is, holds of each
 pub changed_each : (is_change : ℕ → Bound → Bound → Type 0) (P : Bound → Bound → Type 0) (begin end : ℕ) (before after : List Bound)
     → AreChanged is_change begin end before after → ((k : ℕ) → (from to : Bound) → is_change k from to → P from to) → ((b : Bound) → P b b)

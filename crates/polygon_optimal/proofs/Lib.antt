@@ -1,6 +1,7 @@
 pub mod Best
 pub mod Counting
 pub mod Exists
+pub mod Floors
 pub mod Greedy
 pub mod Halving
 pub mod Joining
