@@ -1,7 +1,7 @@
 -- How two windows are joined: what was known of earlier ones stays.
-use Rattle.std.proofs.Common.{◌≡◌, ℕ, ◌+◌, ◌-◌, ◌<◌, ◌≤◌, ◌^◌, List, length, set, refl, sym, ◌∙◌, ap, subst, get_or-set_same, inl, inr, arith}
+use Rattle.std.proofs.Common.{◌≡◌, ℕ, ◌+◌, ◌-◌, ◌<◌, ◌≤◌, ◌^◌, List, length, replicate, set, refl, sym, ◌∙◌, ap, subst, get_or-set_same, inl, inr, arith}
 use Rattle.std.proofs.lemmas.Bool.{cases_eq, cases_lt}
-use Rattle.std.proofs.lemmas.List.{get_or-set_other, length-set}
+use Rattle.std.proofs.lemmas.List.{get_or-replicate, get_or-set_other, get_or_past, length-replicate, length-set}
 use Rattle.std.specs.Prelude.{slice_index, ◌⊎◌}
 use Rattle.polygon_optimal.specs.declared.bounds.Bound.{Bound}
 use Rattle.polygon_optimal.specs.Inner.Bounds.{AreBoundsOf, AreWindows, IsInWindow, IsJoined, bound_at, no_bound}
@@ -85,6 +85,13 @@ changed_each is_change P begin end before after are each same k = elim (cases_lt
     | inl inside ↦ each k (bound_at before k) (bound_at after k) (are.changed k up inside)
     | inr late ↦ subst (P (bound_at before k)) (sym (are.others k (inr late))) (same (bound_at before k))
   ]
+]
+
+-- where nothing is known of any point, nothing is of each
+pub bound_of_none : (bounds : List Bound) (places : ℕ) → bounds ≡ replicate places no_bound → (k : ℕ) → bound_at bounds k ≡ no_bound
+bound_of_none bounds places none k = elim (cases_lt k places) [
+  | inl inside ↦ ap (λ xs. bound_at xs k) none ∙ get_or-replicate places k no_bound no_bound inside
+  | inr past ↦ get_or_past bounds k no_bound (omega (arith, ap length none, length-replicate places no_bound))
 ]
 
 -- what two windows' join changes: of this window's vertices what is ahead, and of the next one's what is behind and the floor

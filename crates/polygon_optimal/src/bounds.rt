@@ -12,7 +12,7 @@ ghost use Rattle.std.specs.Prelude.{◌≡◌, ℕ, ◌+◌, ◌<◌, ◌≤◌,
 ghost use Rattle.pt_core.specs.ClosedWalk.{IsClosedWalk};
 ghost use Rattle.prefix_moments.specs.Sums.{spread_of};
 ghost use Rattle.polygon_optimal.specs.Polygon.{penalty_of};
-ghost use Rattle.polygon_optimal.specs.Inner.Bounds.{AreBounds, AreBoundsOf, AreWindows, bound_at};
+ghost use Rattle.polygon_optimal.specs.Inner.Bounds.{AreBounds, AreBoundsOf, AreWindows, bound_at, no_bound};
 ghost use Rattle.polygon_optimal.specs.Inner.Joining.{AreBlank, AreChanged, IsAheadFound, IsAheadOf, IsBehindFound, IsBehindOf, IsFloorChange, IsLowered, ReachesBack, ReachesOn};
 
 use crate::segments::Segments;
@@ -38,7 +38,9 @@ pub(crate) struct Bound {
 
 impl Bound {
     /// Of a vertex of which nothing is known.
-    pub(crate) fn none() -> Bound {
+    pub(crate) fn none() -> Bound
+        ensures { result ≡ no_bound }
+    {
         Bound {
             floor: 0,
             ahead: 0,
