@@ -209,12 +209,8 @@ fn fill_ahead(halves: &Option<Halves>, first: u32, end: u32, bounds: &mut [Bound
     let mut least = FAR;
     for from in first..end + 1 {
         let ahead = ahead_of(halves, from);
-        let bound = bounds[from as usize];
-        bounds[from as usize] = Bound {
-            floor: bound.floor,
-            ahead,
-            behind: bound.behind,
-        };
+        let bound = &mut bounds[from as usize];
+        bound.ahead = ahead;
         least = least.min(bound.floor + u64::from(ahead));
     }
     least
@@ -232,11 +228,9 @@ fn fill_behind(halves: &Option<Halves>, begin: u32, last: u32, paid: u64, bounds
 {
     for to in begin..last + 1 {
         let behind = behind_of(halves, to);
-        bounds[to as usize] = Bound {
-            floor: FAR.min(paid + u64::from(behind)),
-            ahead: bounds[to as usize].ahead,
-            behind,
-        };
+        let bound = &mut bounds[to as usize];
+        bound.behind = behind;
+        bound.floor = FAR.min(paid + u64::from(behind));
     }
 }
 
