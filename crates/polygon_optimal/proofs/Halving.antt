@@ -1,14 +1,14 @@
 -- What the halves of segments add together.
 use Rattle.std.proofs.Common.{◌≡◌, ℕ, ◌+◌, ◌-◌, ◌/◌, ◌<◌, ◌≤◌, List, length, ap, subst, arith}
-use Rattle.std.specs.Prelude.{Some, None, IfSome}
+use Rattle.std.specs.Prelude.{Some, None, IfSome, slice_index}
 use Rattle.std.specs.declared.option.Option.{Option}
 use Rattle.pt_core.specs.declared.point.Point.{Point}
-use Rattle.pt_core.specs.declared.limits.TheConstants.{MOST_STEPS}
 use Rattle.half_penalties.specs.HalfPenalties.{GoesOneWay, IsBoundBefore, IsBoundBehind}
 use Rattle.half_penalties.specs.declared.halves.Halves.{Halves}
 use Rattle.polygon_optimal.specs.Polygon.{penalty_of}
 use Rattle.polygon_optimal.specs.Inner.OnePenalty.{penalty_is}
 use Rattle.polygon_optimal.specs.Inner.Joining.{IsAheadOf, IsBehindOf, ReachesBack, ReachesOn}
+use Rattle.polygon_optimal.proofs.Windowed.{IsBetween}
 use Rattle.polygon_optimal.proofs.Together.{together}
 
 -- halves of segments from `first` on up to `last` over this middle were found
@@ -27,25 +27,32 @@ halves_of points first at last (Some h) moments middle one_way = record { moment
 pub middle_between : (end begin : ℕ) → end < begin → (end ≤ end + (begin - 1 - end) / 2) × (end + (begin - 1 - end) / 2 < begin)
 middle_between end begin below = (omega arith, omega arith)
 
--- where the first of them reaches as far as the middle and the last goes no farther than one from the middle, the halves have few steps
-pub reach_back : (points : List Point) (first at last end : ℕ) (halves : Option Halves) → IfSome halves (AreHalvesOf points first at last)
-    → end ≤ at → at < length points → at - first ≤ MOST_STEPS → IfSome halves (λ h. ReachesBack h first end)
-reach_back points first at last end None are order inside steps = are
-reach_back points first at last end (Some h) are order inside steps = record {
-  order = omega (arith, are.middle);
-  steps = omega (arith, are.middle);
-  inside = omega (arith, are.middle, ap length are.moments);
-}
+-- such halves have few steps
+module _ (points : List Point) (begins farthest : List ℕ) (window at : ℕ) (between : IsBetween (length points) begins farthest window at) where
+  abbrev first : ℕ
+  first = slice_index begins window
 
-pub reach_on : (points : List Point) (first at last begin : ℕ) (halves : Option Halves) → IfSome halves (AreHalvesOf points first at last)
-    → at < begin → at < length points → last ≤ length points → last - at ≤ MOST_STEPS → IfSome halves (λ h. ReachesOn h begin last)
-reach_on points first at last begin None are beyond inside lap steps = are
-reach_on points first at last begin (Some h) are beyond inside lap steps = record {
-  beyond = omega (arith, are.middle);
-  steps = omega (arith, are.middle);
-  lap = omega (arith, ap length are.moments);
-  inside = omega (arith, are.middle, ap length are.moments);
-}
+  abbrev last : ℕ
+  last = slice_index farthest (window + 1)
+
+  pub reach_back : (halves : Option Halves) → IfSome halves (AreHalvesOf points first at last)
+      → IfSome halves (λ h. ReachesBack h first (slice_index farthest window))
+  reach_back None are = are
+  reach_back (Some h) are = record {
+    order = omega (arith, are.middle, between.order);
+    steps = omega (arith, are.middle, between.back);
+    inside = omega (arith, are.middle, ap length are.moments, between.inside);
+  }
+
+  pub reach_on : (halves : Option Halves) → IfSome halves (AreHalvesOf points first at last)
+      → IfSome halves (λ h. ReachesOn h (slice_index begins (window + 1)) last)
+  reach_on None are = are
+  reach_on (Some h) are = record {
+    beyond = omega (arith, are.middle, between.beyond);
+    steps = omega (arith, are.middle, between.on);
+    lap = omega (arith, ap length are.moments, between.lap);
+    inside = omega (arith, are.middle, ap length are.moments, between.inside);
+  }
 
 -- they add no more than a segment's penalty
 pub halves_most : (points : List Point) (first at last : ℕ) (halves : Option Halves) → IfSome halves (AreHalvesOf points first at last)

@@ -2,6 +2,7 @@
 use Rattle.std.proofs.Common.{◌≡◌, ℕ, ◌+◌, ◌-◌, ◌<◌, ◌≤◌, List, length, subst, inl, inr, arith}
 use Rattle.std.proofs.lemmas.Bool.{cases_lt}
 use Rattle.std.specs.Prelude.{slice_index}
+use Rattle.pt_core.specs.declared.limits.TheConstants.{MOST_STEPS}
 use Rattle.polygon_optimal.specs.Inner.Bounds.{AreWindows, IsInWindow}
 use Rattle.polygon_optimal.specs.Inner.Search.{BeginsWindow, counts_of}
 use Rattle.polygon_optimal.proofs.Counting.{AreCounted, last_keeps, rises}
@@ -14,6 +15,15 @@ pub opens_before : (size : ℕ) (lasts counts farthest : List ℕ) (window begin
 opens_before size lasts counts farthest window begin first w near reaches short =
     opens_at size lasts counts farthest window begin w first near (left_here size lasts counts farthest window begin w first near reaches)
     (λ k is. short k (omega arith))
+
+-- a point between this window and the next one is not too far from the vertices of either
+pub record IsBetween (size : ℕ) (begins farthest : List ℕ) (window at : ℕ) : Type 0 where
+  pub order : slice_index farthest window ≤ at
+  pub beyond : at < slice_index begins (window + 1)
+  pub inside : at < size
+  pub lap : slice_index farthest (window + 1) ≤ size
+  pub back : at - slice_index begins window ≤ MOST_STEPS
+  pub on : slice_index farthest (window + 1) - at ≤ MOST_STEPS
 
 module _ (size : ℕ) (lasts begins farthest : List ℕ) (known : AreCounted size lasts (counts_of size lasts))
     (are : AreWindows size lasts begins farthest) where
@@ -103,3 +113,20 @@ module _ (size : ℕ) (lasts begins farthest : List ℕ) (known : AreCounted siz
           let rise = rises size lasts known.leads known.rising (slice_index farthest window - i) i (omega (arith, e, end_below)) in
           let up = subst (λ n. slice_index lasts i ≤ slice_index lasts n) e rise in
           omega (arith, up, next_end)
+
+    pub is_between : (at : ℕ) → slice_index farthest window ≤ at → at < slice_index begins (window + 1) → IsBetween size begins farthest window at
+    is_between at order beyond =
+        let first : ℕ = slice_index begins window in
+        let near = begin_near window (omega (arith, room)) in
+        let reached = last_beyond first (record { begin = omega arith; end = near }) in
+        let within = within_end (window + 1) room in
+        let start = known.leads first (omega (arith, near, end_below)) in
+        let stop = known.leads (slice_index farthest window) end_below in
+        record {
+          order = order;
+          beyond = beyond;
+          inside = omega (arith, begin_near (window + 1) room, within);
+          lap = within;
+          back = omega (arith, reached, start.short);
+          on = omega (arith, stop.short, next_end);
+        }

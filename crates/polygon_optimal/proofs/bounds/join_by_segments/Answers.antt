@@ -75,28 +75,21 @@ loop-from-preserved c =
       ];
     }
 
-pub returns-clause-bounds : goal.returns-clause-bounds
-returns-clause-bounds c =
+pub returns : goal.returns
+returns c =
     let s = c.args.segments.now in
     let size = length s.moments.now in
     let lasts = s.lasts.items in
     let known = counted size lasts s.onwards s.rising in
     let cost = penalty_of s.moments.now in
+    let so_far = c.loop-from.invariant in
     let joined = joined_by_segments size lasts c.args.begins.now c.args.farthest.now known c.requires.windows c.args.window c.requires.window cost
-    c.args.bounds.now c.loop-from.bounds c.requires.bounds c.requires.blank c.loop-from.invariant.changed
-    (λ i j inside above reached. c.loop-from.invariant.floors i j inside.begin (omega (arith, inside.end, c.loop-from-test.false)) above reached) in
-    joined_more size lasts c.args.begins.now c.args.farthest.now known c.requires.windows cost c.args.window c.requires.window
-    c.args.bounds.now c.loop-from.bounds joined c.requires.bounds
-
-pub returns-clause-blank : goal.returns-clause-blank
-returns-clause-blank c =
-    let s = c.args.segments.now in
-    let size = length s.moments.now in
-    let lasts = s.lasts.items in
-    let known = counted size lasts s.onwards s.rising in
-    let cost = penalty_of s.moments.now in
-    let joined = joined_by_segments size lasts c.args.begins.now c.args.farthest.now known c.requires.windows c.args.window c.requires.window cost
-    c.args.bounds.now c.loop-from.bounds c.requires.bounds c.requires.blank c.loop-from.invariant.changed
-    (λ i j inside above reached. c.loop-from.invariant.floors i j inside.begin (omega (arith, inside.end, c.loop-from-test.false)) above reached) in
-    blank_more size lasts c.args.begins.now c.args.farthest.now known c.requires.windows cost c.args.window c.requires.window
-    c.args.bounds.now c.loop-from.bounds joined c.requires.blank
+    c.args.bounds.now c.loop-from.bounds c.requires.bounds c.requires.blank so_far.changed
+    (λ i j inside above reached. so_far.floors i j inside.begin (omega (arith, inside.end, c.loop-from-test.false)) above reached) in
+    record {
+      places = so_far.changed.places;
+      bounds = joined_more size lasts c.args.begins.now c.args.farthest.now known c.requires.windows cost c.args.window c.requires.window
+          c.args.bounds.now c.loop-from.bounds joined c.requires.bounds;
+      blank = blank_more size lasts c.args.begins.now c.args.farthest.now known c.requires.windows cost c.args.window c.requires.window
+          c.args.bounds.now c.loop-from.bounds joined c.requires.blank;
+    }
