@@ -126,8 +126,11 @@ module _ (size : ℕ) (lasts begins farthest : List ℕ) (known : AreCounted siz
             omega (arith, within, end)
         | inr far ↦
             let last = begin_near size lasts begins farthest known are window (omega arith) in
-            omega (arith, windows_apart size lasts begins farthest known are (earlier + 1) window j (slice_index farthest window) (omega arith) (omega arith)
-              (record { begin = above; end = omega (arith, within) }) (record { begin = last; end = omega arith }))
+            omega (
+              arith,
+              windows_apart size lasts begins farthest known are (earlier + 1) window j (slice_index farthest window) (omega arith) (omega arith)
+                  (record { begin = above; end = omega (arith, within) }) (record { begin = last; end = omega arith }),
+            )
       ]
 
   pub joined_more : AreBoundsOf lasts begins farthest cost window before → AreBoundsOf lasts begins farthest cost (window + 1) after

@@ -35,8 +35,12 @@ module _ (size : ℕ) (lasts begins farthest : List ℕ) (known : AreCounted siz
   begin_near window room = elim (cases_lt (slice_index farthest window) (slice_index begins window)) [
     | inl beyond ↦
         let opens = are.each window (omega (arith, are.count)) in
-        absurd (omega (arith, opens.none_before (slice_index farthest window) beyond, opens.left,
-          are.ends.left window (omega (arith, are.ends.count))))
+        absurd (omega (
+          arith,
+          opens.none_before (slice_index farthest window) beyond,
+          opens.left,
+          are.ends.left window (omega (arith, are.ends.count)),
+        ))
     | inr near ↦ near
   ]
 

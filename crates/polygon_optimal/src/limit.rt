@@ -20,7 +20,12 @@ struct Chosen {
 }
 
 /// What some polygon costs, or nearly 2^56.
-pub(crate) fn likely_limit(segments: &Segments, begins: &[u32], farthest: &[u32], bounds: &[Bound]) -> u64
+pub(crate) fn likely_limit(
+    segments: &Segments,
+    begins: &[u32],
+    farthest: &[u32],
+    bounds: &[Bound],
+) -> u64
     requires places { length segments.now.moments.now + 1 ≤ length bounds.now }
     requires windows { AreWindows (length segments.now.moments.now) segments.now.lasts.items begins.now farthest.now }
 {

@@ -1,4 +1,4 @@
-use Rattle.std.proofs.Common.{ℕ, ◌+◌, ◌<◌, ◌≤◌, ◌^◌}
+use Rattle.std.proofs.Common.{◌+◌, ◌<◌, ◌≤◌, ◌^◌}
 use Rattle.polygon_optimal.specs.Inner.Joining.{AreChanged, IsAheadFound}
 use Rattle.polygon_optimal.proofs.bounds.fill_ahead.Given as goal
 

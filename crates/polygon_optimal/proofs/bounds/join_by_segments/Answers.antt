@@ -1,11 +1,10 @@
-use Rattle.std.proofs.Common.{◌≡◌, ℕ, ◌+◌, ◌<◌, ◌≤◌, length, ◌∙◌, ap, subst, sym, inl, inr, refl, arith}
+use Rattle.std.proofs.Common.{◌≡◌, ℕ, ◌+◌, ◌<◌, ◌≤◌, length, ◌∙◌, ap, subst, sym, inl, inr, arith}
 use Rattle.std.proofs.lemmas.Bool.{cases_lt}
 use Rattle.std.specs.Prelude.{slice_index}
 use Rattle.polygon_optimal.specs.declared.bounds.Bound.{Bound}
 use Rattle.polygon_optimal.specs.Polygon.{penalty_of}
 use Rattle.polygon_optimal.specs.Inner.Bounds.{IsInWindow, bound_at}
 use Rattle.polygon_optimal.specs.Inner.Joining.{IsFloorChange, IsLowered}
-use Rattle.polygon_optimal.specs.Inner.Search.{counts_of}
 use Rattle.polygon_optimal.proofs.Counting.{counted}
 use Rattle.polygon_optimal.proofs.Floors.{joined_by_segments}
 use Rattle.polygon_optimal.proofs.Joining.{blank_more, changed_again, changed_each, joined_more}

@@ -1,4 +1,4 @@
-use Rattle.std.proofs.Common.{◌≡◌, ℕ, ◌+◌, ◌≤◌, length, refl, arith}
+use Rattle.std.proofs.Common.{refl, arith}
 use Rattle.polygon_optimal.specs.Inner.OnePenalty.{penalty_is, penalty_is_one}
 use Rattle.polygon_optimal.specs.Inner.Joining.{IsLowered}
 use Rattle.polygon_optimal.specs.Polygon.{penalty_of}

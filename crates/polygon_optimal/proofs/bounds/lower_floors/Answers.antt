@@ -1,4 +1,4 @@
-use Rattle.std.proofs.Common.{◌≡◌, ℕ, ◌+◌, ap, ◌∙◌, arith}
+use Rattle.std.proofs.Common.{ℕ, ◌+◌, ap, ◌∙◌, arith}
 use Rattle.polygon_optimal.specs.Inner.Bounds.{bound_at}
 use Rattle.polygon_optimal.specs.Inner.Joining.{IsLowered}
 use Rattle.polygon_optimal.specs.Polygon.{penalty_of}

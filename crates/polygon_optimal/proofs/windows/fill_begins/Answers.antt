@@ -1,9 +1,9 @@
-use Rattle.std.proofs.Common.{◌≡◌, ℕ, zero, suc, ◌+◌, ◌-◌, ◌<◌, List, [], ◌++◌, length, take, replicate, get_or, set, refl, subst, sym, ap, ◌∙◌, get_or-set_same, inl, inr, arith}
+use Rattle.std.proofs.Common.{◌≡◌, ℕ, zero, suc, ◌+◌, ◌-◌, ◌<◌, List, [], ◌++◌, length, take, replicate, set, refl, subst, sym, ap, ◌∙◌, get_or-set_same, inl, inr, arith}
 use Rattle.std.proofs.lemmas.Bool.{cases_eq}
-use Rattle.std.proofs.lemmas.List.{get_or_default, get_or-replicate, get_or-set_other, length-set}
+use Rattle.std.proofs.lemmas.List.{get_or-replicate, get_or-set_other, length-set}
 use Rattle.std.specs.Prelude.{slice_index}
 use Rattle.polygon_optimal.specs.Inner.Search.{BeginsWindow, counts_of}
-use Rattle.polygon_optimal.proofs.Counting.{counted}
+use Rattle.polygon_optimal.proofs.Counting.{counted, last_of}
 use Rattle.polygon_optimal.proofs.Opening.{begins_at_end, far_below, far_reaches}
 use Rattle.polygon_optimal.proofs.Stepping.{windows}
 use Rattle.polygon_optimal.proofs.Windowed.{opens_before}
@@ -33,7 +33,7 @@ loop-window-init c =
       inside = omega (arith, count);
       each = λ v above below.
           (let there = all_one c.resize.new.self.items c.clear.new.self.items _ _ c.len.result v c.in_ok-resize.ensures.items c.clear.ensures.items
-            (omega (arith, ap length c.clear.ensures.items)) in
+          (omega (arith, ap length c.clear.ensures.items)) in
           begins_at_end size lasts counts known v _ (omega (arith, count)) (omega (arith, there, s.places)));
     }
 
@@ -46,10 +46,6 @@ begin_before-requires-clause-end c =
     let w = windows (length s.moments.now) s.lasts.items c.args.farthest.now at _ s.onwards s.rising c.requires.ends (omega (arith, c.loop-window.invariant.inside)) next in
     far_below (length s.moments.now) s.lasts.items (counts_of (length s.moments.now) s.lasts.items) c.args.farthest.now at _ w
 
--- the first point of the next window was looked up
-begin_of : (begins : List ℕ) (at begin : ℕ) → at < length begins → begin ≡ get_or begins at begin → begin ≡ slice_index begins at
-begin_of begins at begin there is = is ∙ get_or_default begins at begin 0 there
-
 pub begin_before-requires-clause-reaches : goal.begin_before-requires-clause-reaches
 begin_before-requires-clause-reaches c =
     let s = c.args.segments.now in
@@ -57,7 +53,7 @@ begin_before-requires-clause-reaches c =
     let e : c.loop-window.window ≡ at + 1 = omega (arith, c.loop-window-test.true) in
     let next = c.loop-window.invariant.each (at + 1) (omega arith) (omega (arith, c.loop-window.invariant.inside)) in
     let w = windows (length s.moments.now) s.lasts.items c.args.farthest.now at _ s.onwards s.rising c.requires.ends (omega (arith, c.loop-window.invariant.inside)) next in
-    let begin = begin_of c.loop-window.begins.items (at + 1) c.index.result.now (omega (arith, c.loop-window.invariant.inside, c.loop-window.invariant.places)) c.index.ensures in
+    let begin = last_of c.loop-window.begins.items (at + 1) c.index.result.now (omega (arith, c.loop-window.invariant.inside, c.loop-window.invariant.places)) c.index.ensures in
     omega (arith, begin, far_reaches (length s.moments.now) s.lasts.items (counts_of (length s.moments.now) s.lasts.items) c.args.farthest.now at _ w)
 
 pub loop-window-preserved : goal.loop-window-preserved
@@ -74,7 +70,7 @@ loop-window-preserved c =
     let next = c.loop-window.invariant.each (at + 1) (omega arith) (omega (arith, inside)) in
     let w = windows size lasts c.args.farthest.now at _ s.onwards s.rising c.requires.ends (omega (arith, inside)) next in
     let first : ℕ = c.begin_before.result in
-    let begin = begin_of begins (at + 1) c.index.result.now (omega (arith, inside, places)) c.index.ensures in
+    let begin = last_of begins (at + 1) c.index.result.now (omega (arith, inside, places)) c.index.ensures in
     let is = c.begin_before.ensures in
     let opens = opens_before size lasts counts c.args.farthest.now at (slice_index begins (at + 1)) first w is.near
     (omega (arith, begin, is.reaches)) (λ k below. omega (arith, begin, is.first k below)) in
