@@ -1,2 +1,4 @@
 pub mod Cauchy
+pub mod Fitting
+pub mod Forms
 pub mod Together

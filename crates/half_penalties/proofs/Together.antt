@@ -38,11 +38,11 @@ halves_are points i middle j h l =
     ap (sum_of (λ d. one (i + d))) count ∙ split (λ d. one (i + d)) p q
     ∙ ap (λ z. sum_of (λ d. one (i + d)) p +ℤ z) (sum_same (λ d. one (i + (p + d))) (λ d. other (middle + 1 + d)) q (λ d. ap one (place d) ∙ same (middle + 1 + d)))
 
-square_is : (z : ℤ) → z *ℤ z ≡ pos (unsigned_abs z * unsigned_abs z)
+pub square_is : (z : ℤ) → z *ℤ z ≡ pos (unsigned_abs z * unsigned_abs z)
 square_is (pos n) = omega (arith, ints)
 square_is (negsuc n) = omega (arith, ints)
 
-natural : (z : ℤ) → pos 0 ≤ℤ z → z ≡ pos (unsigned_abs z)
+pub natural : (z : ℤ) → pos 0 ≤ℤ z → z ≡ pos (unsigned_abs z)
 natural z h = omega (arith, ints)
 
 -- a bound's inequality in natural numbers
