@@ -1,9 +1,10 @@
 -- Numbers that fit their types.
-use Rattle.std.proofs.Common.{◌≡◌, ℕ, ◌+◌, ◌*◌, ◌<◌, ◌≤◌, ◌^◌, ℤ, pos, ◌+ℤ◌, ◌-ℤ◌, ◌*ℤ◌, w64, to_z, of_z, refl, arith}
+use Rattle.std.proofs.Common.{◌≡◌, ℕ, ◌+◌, ◌*◌, ◌<◌, ◌≤◌, ◌^◌, ℤ, pos, ◌+ℤ◌, ◌-ℤ◌, ◌*ℤ◌, w64, to_z, of_z, refl, ap, ◌∙◌, arith}
 use Rattle.std.proofs.lemmas.Int.{ints, fits_signed_from_abs}
 use Rattle.std.specs.Prelude.{unsigned_abs}
 use Rattle.std.specs.Int.RustNames.{FitsSigned}
 use mir.Syntax.{w128}
+use Rattle.pt_core.specs.declared.limits.TheConstants.{LONGEST_SIDE, MOST_STEPS}
 use Rattle.pt_core.proofs.Sizes.{back, long_back, product_most}
 use Rattle.half_penalties.specs.declared.products.Products.{Products}
 use Rattle.half_penalties.specs.Inner.Products.{along_squares_of, determinant_of, AreSums, IsSlant}
@@ -82,3 +83,61 @@ sums_most a b h k = let most = product_most a b (2 ^ 46) (2 ^ 46) h k in omega a
 -- what a call that was passed two numbers of 64 bits says of their product
 pub product_value : (r a b : ℤ) → unsigned_abs a < 2 ^ 63 → unsigned_abs b < 2 ^ 63 → r ≡ to_z w64 (of_z w64 a) *ℤ to_z w64 (of_z w64 b) → r ≡ a *ℤ b
 product_value r a b h k e = rw (back a h, back b k) at e
+
+-- a sum without a product
+module _ (sum a b : ℤ) (short : unsigned_abs sum ≤ 2 ^ 60) (few : unsigned_abs a ≤ 2 ^ 17) (most : unsigned_abs b ≤ 2 ^ 40) where
+  product_short : unsigned_abs (a *ℤ b) ≤ 2 ^ 57
+  product_short = let product = product_most a b (2 ^ 17) (2 ^ 40) few most in omega arith
+
+  pub less_product_is : to_z w64 (of_z w64 (to_z w64 (of_z w64 sum) -ℤ to_z w64 (of_z w64 (to_z w64 (of_z w64 a) *ℤ to_z w64 (of_z w64 b))))) ≡ sum -ℤ a *ℤ b
+  less_product_is =
+      let product = product_short in
+      rw (back sum (omega arith), back a (omega arith), back b (omega arith), back (a *ℤ b) (omega arith), back (sum -ℤ a *ℤ b) (omega (arith, ints))) refl
+
+pub less_most : (s a b : ℤ) (m n k : ℕ) → unsigned_abs s ≤ m → unsigned_abs a ≤ n → unsigned_abs b ≤ k → unsigned_abs (s -ℤ a *ℤ b) ≤ m + n * k
+less_most s a b m n k h i j = let product = product_most a b n k i j in omega (arith, ints)
+
+-- what a call of `less_product` gives
+less_value : (r s a b : ℤ) → unsigned_abs s < 2 ^ 63 → unsigned_abs a < 2 ^ 63 → unsigned_abs b < 2 ^ 63
+    → r ≡ to_z w64 (of_z w64 s) -ℤ to_z w64 (of_z w64 a) *ℤ to_z w64 (of_z w64 b) → r ≡ s -ℤ a *ℤ b
+less_value r s a b h i j e = rw (back s h, back a i, back b j) at e
+
+-- a sum of offsets that is moved
+module _ (r s n a : ℤ) (count : ℕ) (is : n ≡ pos count) (few : count ≤ MOST_STEPS + 1) (sum : unsigned_abs s ≤ (MOST_STEPS + 1) * LONGEST_SIDE) (side : unsigned_abs a ≤ LONGEST_SIDE)
+  (e : r ≡ to_z w64 (of_z w64 s) -ℤ to_z w64 (of_z w64 n) *ℤ to_z w64 (of_z w64 a)) where
+  count_most : unsigned_abs n ≤ MOST_STEPS + 1
+  count_most = rw is few
+
+  pub moved_sum_is : r ≡ s -ℤ pos count *ℤ a
+  moved_sum_is = let most = count_most in less_value r s n a (omega arith) (omega arith) (omega arith) e ∙ ap (λ z. s -ℤ z *ℤ a) is
+
+  pub moved_sum_most : unsigned_abs r ≤ 2 ^ 40
+  moved_sum_most =
+      let most = less_most s (pos count) a ((MOST_STEPS + 1) * LONGEST_SIDE) (MOST_STEPS + 1) LONGEST_SIDE sum few side in
+      rw moved_sum_is (omega (arith, most))
+
+-- a sum of products of offsets that is moved
+module _ (first r s a x b o moved : ℤ) (sum : unsigned_abs s ≤ (MOST_STEPS + 1) * (LONGEST_SIDE * LONGEST_SIDE)) (side : unsigned_abs a ≤ LONGEST_SIDE)
+  (other : unsigned_abs x ≤ (MOST_STEPS + 1) * LONGEST_SIDE)
+  (e : first ≡ to_z w64 (of_z w64 s) -ℤ to_z w64 (of_z w64 a) *ℤ to_z w64 (of_z w64 x)) where
+  first_is : first ≡ s -ℤ a *ℤ x
+  first_is = less_value first s a x (omega arith) (omega arith) (omega arith) e
+
+  pub first_most : unsigned_abs first ≤ 2 ^ 48
+  first_most =
+      let most = less_most s a x ((MOST_STEPS + 1) * (LONGEST_SIDE * LONGEST_SIDE)) LONGEST_SIDE ((MOST_STEPS + 1) * LONGEST_SIDE) sum side other in
+      rw first_is (omega (arith, most))
+
+  pub moved_products_is : unsigned_abs b ≤ LONGEST_SIDE → unsigned_abs o ≤ 2 ^ 40 → o ≡ moved
+      → r ≡ to_z w64 (of_z w64 first) -ℤ to_z w64 (of_z w64 b) *ℤ to_z w64 (of_z w64 o) → to_z w64 (of_z w64 r) ≡ (s -ℤ a *ℤ x) -ℤ b *ℤ moved
+  moved_products_is other_side offsets is f =
+      let short = first_most in
+      let value : r ≡ first -ℤ b *ℤ o = less_value r first b o (omega arith) (omega arith) (omega arith) f in
+      let most : unsigned_abs r ≤ 2 ^ 60 = rw value (let m = less_most first b o (2 ^ 48) LONGEST_SIDE (2 ^ 40) short other_side offsets in omega (arith, m)) in
+      back r (omega (arith, most)) ∙ value ∙ ap (λ z. z -ℤ b *ℤ o) first_is ∙ ap (λ z. (s -ℤ a *ℤ x) -ℤ b *ℤ z) is
+
+pub short_back : (z : ℤ) → unsigned_abs z ≤ 2 ^ 48 → unsigned_abs (to_z w64 (of_z w64 z)) ≤ 2 ^ 48
+short_back z h = rw (back z (omega arith)) h
+
+pub shorter_back : (z : ℤ) → unsigned_abs z ≤ 2 ^ 40 → unsigned_abs (to_z w64 (of_z w64 z)) ≤ 2 ^ 40
+shorter_back z h = rw (back z (omega arith)) h

@@ -81,7 +81,7 @@ product_is squares mixed yy above along =
 
 -- ---- what follows
 
-slants : (slant : ℤ) → IsSlant slant → (slant ≡ pos 1) ⊎ (slant ≡ negsuc 0)
+pub slants : (slant : ℤ) → IsSlant slant → (slant ≡ pos 1) ⊎ (slant ≡ negsuc 0)
 slants (pos n) is = inl (ap pos is)
 slants (negsuc n) is = inr (ap negsuc (omega (arith, is)))
 

@@ -77,13 +77,11 @@ impl<'a> Halves<'a> {
         if i == self.middle {
             return 0;
         }
-        let sums = self.moments.sums(i, self.middle);
-        let products = Products {
-            xx: sums.xx,
-            xy: sums.xy,
-            yy: sums.yy,
-        };
-        bound_by(products, self.slant, self.middle - i)
+        bound_by(
+            self.products_from(i, self.middle),
+            self.slant,
+            self.middle - i,
+        )
     }
 
     /// How much the half from the point after the middle to point number `j` adds at least.
@@ -102,7 +100,22 @@ impl<'a> Halves<'a> {
         bound_by(self.products_to(next, j), self.slant, j - next)
     }
 
-    /// The sums over the points from number `i` to number `j`, about the latter.
+    /// The sums over the points from number `i` to number `j`, about the former.
+    fn products_from(&self, i: u32, j: u32) -> Products
+        requires order { i < j }
+        requires steps { j - i ≤ MOST_STEPS }
+        requires lap { j ≤ length self.now.moments.now }
+        ensures { result ≡ products_about self.now.moments.now i i j }
+    {
+        let sums = self.moments.sums(i, j);
+        Products {
+            xx: sums.xx,
+            xy: sums.xy,
+            yy: sums.yy,
+        }
+    }
+
+    /// The same about the latter.
     fn products_to(&self, i: u32, j: u32) -> Products
         requires order { i < j }
         requires steps { j - i ≤ MOST_STEPS }
@@ -179,7 +192,7 @@ fn moved(sums: Sums, right: i64, above: i64) -> Products
 
 /// A sum without a product.
 fn less_product(sum: i64, a: i64, b: i64) -> i64
-    requires sum { unsigned_abs sum ≤ 2 ^ 60 }
+    requires sum { unsigned_abs sum ≤ 2 ^ 48 }
     requires a { unsigned_abs a ≤ 2 ^ 17 }
     requires b { unsigned_abs b ≤ 2 ^ 40 }
     ensures value { result ≡ sum -ℤ a *ℤ b }
