@@ -116,8 +116,11 @@ module _ (r s n a : ℤ) (count : ℕ) (is : n ≡ pos count) (few : count ≤ M
       let most = less_most s (pos count) a ((MOST_STEPS + 1) * LONGEST_SIDE) (MOST_STEPS + 1) LONGEST_SIDE sum few side in
       rw moved_sum_is (omega (arith, most))
 
+  pub moved_sum_passed : unsigned_abs (to_z w64 (of_z w64 r)) ≤ 2 ^ 40
+  moved_sum_passed = let most = moved_sum_most in rw (back r (omega arith)) most
+
 -- a sum of products of offsets that is moved
-module _ (first r s a x b o moved : ℤ) (sum : unsigned_abs s ≤ (MOST_STEPS + 1) * (LONGEST_SIDE * LONGEST_SIDE)) (side : unsigned_abs a ≤ LONGEST_SIDE)
+module _ (first s a x : ℤ) (sum : unsigned_abs s ≤ (MOST_STEPS + 1) * (LONGEST_SIDE * LONGEST_SIDE)) (side : unsigned_abs a ≤ LONGEST_SIDE)
   (other : unsigned_abs x ≤ (MOST_STEPS + 1) * LONGEST_SIDE)
   (e : first ≡ to_z w64 (of_z w64 s) -ℤ to_z w64 (of_z w64 a) *ℤ to_z w64 (of_z w64 x)) where
   first_is : first ≡ s -ℤ a *ℤ x
@@ -128,16 +131,13 @@ module _ (first r s a x b o moved : ℤ) (sum : unsigned_abs s ≤ (MOST_STEPS +
       let most = less_most s a x ((MOST_STEPS + 1) * (LONGEST_SIDE * LONGEST_SIDE)) LONGEST_SIDE ((MOST_STEPS + 1) * LONGEST_SIDE) sum side other in
       rw first_is (omega (arith, most))
 
-  pub moved_products_is : unsigned_abs b ≤ LONGEST_SIDE → unsigned_abs o ≤ 2 ^ 40 → o ≡ moved
+  pub first_passed : unsigned_abs (to_z w64 (of_z w64 first)) ≤ 2 ^ 48
+  first_passed = let most = first_most in rw (back first (omega arith)) most
+
+  pub moved_products_is : (r b o moved : ℤ) → unsigned_abs b ≤ LONGEST_SIDE → unsigned_abs o ≤ 2 ^ 40 → o ≡ moved
       → r ≡ to_z w64 (of_z w64 first) -ℤ to_z w64 (of_z w64 b) *ℤ to_z w64 (of_z w64 o) → to_z w64 (of_z w64 r) ≡ (s -ℤ a *ℤ x) -ℤ b *ℤ moved
-  moved_products_is other_side offsets is f =
+  moved_products_is r b o moved other_side offsets is f =
       let short = first_most in
       let value : r ≡ first -ℤ b *ℤ o = less_value r first b o (omega arith) (omega arith) (omega arith) f in
       let most : unsigned_abs r ≤ 2 ^ 60 = rw value (let m = less_most first b o (2 ^ 48) LONGEST_SIDE (2 ^ 40) short other_side offsets in omega (arith, m)) in
       back r (omega (arith, most)) ∙ value ∙ ap (λ z. z -ℤ b *ℤ o) first_is ∙ ap (λ z. (s -ℤ a *ℤ x) -ℤ b *ℤ z) is
-
-pub short_back : (z : ℤ) → unsigned_abs z ≤ 2 ^ 48 → unsigned_abs (to_z w64 (of_z w64 z)) ≤ 2 ^ 48
-short_back z h = rw (back z (omega arith)) h
-
-pub shorter_back : (z : ℤ) → unsigned_abs z ≤ 2 ^ 40 → unsigned_abs (to_z w64 (of_z w64 z)) ≤ 2 ^ 40
-shorter_back z h = rw (back z (omega arith)) h
