@@ -7,7 +7,8 @@ use mir.Syntax.{w128}
 use Rattle.pt_core.specs.declared.limits.TheConstants.{LONGEST_SIDE, MOST_STEPS}
 use Rattle.pt_core.proofs.Sizes.{back, long_back, product_most}
 use Rattle.half_penalties.specs.declared.products.Products.{Products}
-use Rattle.half_penalties.specs.Inner.Products.{along_squares_of, determinant_of, AreSums, IsSlant}
+use Rattle.half_penalties.specs.HalfPenalties.{IsSlant}
+use Rattle.half_penalties.specs.Inner.Products.{along_squares_of, AreSums}
 
 -- the sum of the squares along a diagonal
 module _ (p : Products) (slant : ℤ) (sums : AreSums p) (is : IsSlant slant) where
@@ -104,7 +105,7 @@ less_value r s a b h i j e = rw (back s h, back a i, back b j) at e
 
 -- a sum of offsets that is moved
 module _ (r s n a : ℤ) (count : ℕ) (is : n ≡ pos count) (few : count ≤ MOST_STEPS + 1) (sum : unsigned_abs s ≤ (MOST_STEPS + 1) * LONGEST_SIDE) (side : unsigned_abs a ≤ LONGEST_SIDE)
-  (e : r ≡ to_z w64 (of_z w64 s) -ℤ to_z w64 (of_z w64 n) *ℤ to_z w64 (of_z w64 a)) where
+    (e : r ≡ to_z w64 (of_z w64 s) -ℤ to_z w64 (of_z w64 n) *ℤ to_z w64 (of_z w64 a)) where
   count_most : unsigned_abs n ≤ MOST_STEPS + 1
   count_most = rw is few
 
@@ -121,8 +122,8 @@ module _ (r s n a : ℤ) (count : ℕ) (is : n ≡ pos count) (few : count ≤ M
 
 -- a sum of products of offsets that is moved
 module _ (first s a x : ℤ) (sum : unsigned_abs s ≤ (MOST_STEPS + 1) * (LONGEST_SIDE * LONGEST_SIDE)) (side : unsigned_abs a ≤ LONGEST_SIDE)
-  (other : unsigned_abs x ≤ (MOST_STEPS + 1) * LONGEST_SIDE)
-  (e : first ≡ to_z w64 (of_z w64 s) -ℤ to_z w64 (of_z w64 a) *ℤ to_z w64 (of_z w64 x)) where
+    (other : unsigned_abs x ≤ (MOST_STEPS + 1) * LONGEST_SIDE)
+    (e : first ≡ to_z w64 (of_z w64 s) -ℤ to_z w64 (of_z w64 a) *ℤ to_z w64 (of_z w64 x)) where
   first_is : first ≡ s -ℤ a *ℤ x
   first_is = less_value first s a x (omega arith) (omega arith) (omega arith) e
 

@@ -1,14 +1,14 @@
 -- What a bound rests on: the squared cross products with a chord, and the squares along a diagonal.
-use Rattle.std.proofs.Common.{◌≡◌, ℕ, ◌+◌, ◌*◌, ◌<◌, ◌≤◌, inl, inr, ◌⊎◌, ℤ, pos, negsuc, ◌+ℤ◌, ◌-ℤ◌, ◌*ℤ◌, ◌≤ℤ◌, refl, sym, ap, ◌∙◌, subst, arith}
+use Rattle.std.proofs.Common.{◌≡◌, ℕ, ◌+◌, ◌*◌, ◌<◌, ◌≤◌, inl, inr, ◌⊎◌, ℤ, pos, negsuc, ◌+ℤ◌, ◌-ℤ◌, ◌*ℤ◌, ◌≤ℤ◌, sym, ap, ◌∙◌, arith}
 use Rattle.std.proofs.Math.Nat.{le_of_mul-le-mul_left, mul-le-mul_left}
 use Rattle.std.proofs.lemmas.Int.{ints}
 use Rattle.std.specs.Prelude.{unsigned_abs}
 use Rattle.pt_core.proofs.Terms.{Term, num, plus, less, times, same_value}
 use Rattle.prefix_moments.specs.Inner.Table.{spread_by}
 use Rattle.half_penalties.specs.declared.products.Products.{Products}
-use Rattle.half_penalties.specs.HalfPenalties.{along_of}
-use Rattle.half_penalties.specs.Inner.Products.{along_squares_of, determinant_of, AreSums, IsBoundBy, IsShown, IsSlant}
-use Rattle.half_penalties.proofs.Together.{square_is, natural}
+use Rattle.half_penalties.specs.HalfPenalties.{along_of, IsSlant}
+use Rattle.half_penalties.specs.Inner.Products.{along_squares_of, determinant_of, AreSums, IsBoundBy, IsShown}
+use Rattle.half_penalties.proofs.Naturals.{square_is, natural}
 
 -- ---- identities, for either diagonal
 
@@ -123,7 +123,7 @@ weighed bound weight l t q r (negsuc d) some e h =
     let none_here : bound ≡ 0 = omega arith in
     rw none_here (omega arith)
 
-weighed_squares : (bound weight : ℕ) (squares spread along determinant rest : ℤ) → pos 0 ≤ℤ (squares -ℤ pos 1) → pos 0 ≤ℤ spread
+weighed_squares : (bound weight : ℕ) (squares spread along determinant rest : ℤ) → pos 1 ≤ℤ squares → pos 0 ≤ℤ spread
     → squares *ℤ spread ≡ (along *ℤ along) *ℤ determinant +ℤ rest *ℤ rest → (pos bound *ℤ squares) ≤ℤ (pos weight *ℤ determinant)
     → (pos bound *ℤ (along *ℤ along)) ≤ℤ (pos weight *ℤ spread)
 weighed_squares bound weight squares spread along determinant rest some at_least apart reached =

@@ -1,6 +1,7 @@
 pub mod Cauchy
 pub mod Fitting
 pub mod Forms
+pub mod Naturals
 pub mod OneWay
 pub mod Sums
 pub mod Together

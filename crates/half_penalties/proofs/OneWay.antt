@@ -1,13 +1,12 @@
 -- Paths that go one way.
-use Rattle.std.proofs.Common.{◌≡◌, ℕ, zero, suc, ◌+◌, ◌-◌, ◌*◌, ◌<◌, ◌≤◌, inl, inr, ℤ, pos, negsuc, ◌+ℤ◌, ◌-ℤ◌, ◌*ℤ◌, List, sym, ap, ◌∙◌, subst, add-zero, arith}
+use Rattle.std.proofs.Common.{◌≡◌, ◌≢◌, ℕ, zero, suc, ◌+◌, ◌-◌, ◌≤◌, inl, inr, ℤ, ◌+ℤ◌, ◌-ℤ◌, List, sym, ap, ◌∙◌, add-zero, arith}
 use Rattle.std.proofs.lemmas.Int.{ints}
 use Rattle.std.specs.Prelude.{unsigned_abs}
 use Rattle.pt_core.specs.ClosedWalk.{IsClosedWalk, point_at}
 use Rattle.pt_core.specs.declared.point.Point.{Point}
 use Rattle.pt_core.proofs.Terms.{num, plus, less, times, same_value}
 use Rattle.prefix_moments.specs.Sums.{rightward_of, above_of}
-use Rattle.half_penalties.specs.HalfPenalties.{along_of, GoesOneWay}
-use Rattle.half_penalties.specs.Inner.Products.{IsSlant}
+use Rattle.half_penalties.specs.HalfPenalties.{along_of, GoesOneWay, IsSlant}
 use Rattle.half_penalties.proofs.Forms.{slants}
 
 -- a walk goes no farther than it has steps
@@ -55,3 +54,13 @@ parts_go_one_way points walk slant is first last whole i j h k l =
     none_back (along first i) (along i j) (along j last) (i - first) (j - i) (last - j)
     (along_most points walk slant is first i h) (along_most points walk slant is i j k) (along_most points walk slant is j last l)
     (ap unsigned_abs (sym parts) ∙ whole ∙ steps)
+
+-- where it is too short along both, it goes neither way
+pub neither_way : (points : List Point) (first last : ℕ) (right above : ℤ) → right ≡ rightward_of points first last → above ≡ above_of points first last
+    → unsigned_abs (right +ℤ above) ≢ last - first → unsigned_abs (right -ℤ above) ≢ last - first → (slant : ℤ) → IsSlant slant → ¬ GoesOneWay points slant first last
+neither_way points first last right above er ea rising falling slant is = λ whole.
+    let along : unsigned_abs (along_of slant right above) ≡ last - first = rw (er, ea) whole in
+    elim (slants slant is) [
+      | inl e ↦ (let whole = rw e at along in rising (omega (arith, ints, whole)))
+      | inr e ↦ (let whole = rw e at along in falling (omega (arith, ints, whole)))
+    ]

@@ -1,5 +1,5 @@
 -- The sums over a half.
-use Rattle.std.proofs.Common.{◌≡◌, ℕ, ◌+◌, ◌-◌, ◌*◌, ◌<◌, ◌≤◌, ℤ, pos, ◌+ℤ◌, ◌-ℤ◌, ◌*ℤ◌, ◌≤ℤ◌, List, refl, sym, ap, ◌∙◌, subst, arith}
+use Rattle.std.proofs.Common.{◌≡◌, ℕ, ◌+◌, ◌-◌, ◌*◌, ◌≤◌, ℤ, pos, ◌-ℤ◌, ◌*ℤ◌, ◌≤ℤ◌, List, refl, sym, ap, ◌∙◌, subst, arith}
 use Rattle.std.proofs.lemmas.Int.{ints}
 use Rattle.std.specs.Prelude.{unsigned_abs}
 use Rattle.pt_core.specs.ClosedWalk.{point_at}
@@ -7,7 +7,7 @@ use Rattle.pt_core.specs.OnPage.{AreOnPage}
 use Rattle.pt_core.specs.declared.limits.TheConstants.{LONGEST_SIDE, MOST_STEPS}
 use Rattle.pt_core.specs.declared.point.Point.{Point}
 use Rattle.pt_core.proofs.Sizes.{product_most}
-use Rattle.prefix_moments.specs.Sums.{sum_of, sum_over, sums_of, rightward_of, above_of}
+use Rattle.prefix_moments.specs.Sums.{sum_over, sums_of, rightward_of, above_of}
 use Rattle.prefix_moments.specs.Inner.Table.{spread_by}
 use Rattle.prefix_moments.proofs.Longer.{right_most, above_most}
 use Rattle.prefix_moments.proofs.Prefixes.{sum_same}
@@ -16,7 +16,7 @@ use Rattle.prefix_moments.proofs.Summing.{spread_is, squares_at_least, sum_most}
 use Rattle.half_penalties.specs.declared.products.Products.{Products}
 use Rattle.half_penalties.specs.HalfPenalties.{IsHalfBound, cross_from, crosses_of}
 use Rattle.half_penalties.specs.Inner.Products.{moved_of, products_about, AreSums, IsBoundBy}
-use Rattle.half_penalties.proofs.Together.{natural, square_is}
+use Rattle.half_penalties.proofs.Naturals.{natural, square_is}
 use Rattle.half_penalties.specs.HalfPenalties.{along_of}
 
 -- sums are the same where each is

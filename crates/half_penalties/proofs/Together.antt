@@ -1,15 +1,16 @@
 -- That the halves' bounds are together at most the penalty.
-use Rattle.std.proofs.Common.{◌≡◌, ℕ, zero, suc, ◌+◌, ◌-◌, ◌*◌, ◌/◌, ◌<◌, ◌≤◌, ℤ, pos, negsuc, ◌+ℤ◌, ◌-ℤ◌, ◌*ℤ◌, ◌≤ℤ◌, List, refl, sym, ap, ◌∙◌, subst, inl, inr, arith}
-use Rattle.std.proofs.lemmas.Int.{ints, unsigned_abs-mul}
+use Rattle.std.proofs.Common.{◌≡◌, ℕ, ◌+◌, ◌-◌, ◌*◌, ◌<◌, ◌≤◌, ℤ, pos, ◌+ℤ◌, ◌-ℤ◌, ◌*ℤ◌, ◌≤ℤ◌, List, sym, ap, ◌∙◌, subst, arith}
+use Rattle.std.proofs.lemmas.Int.{ints}
 use Rattle.std.specs.Prelude.{unsigned_abs}
 use Rattle.pt_core.specs.declared.point.Point.{Point}
 use Rattle.pt_core.specs.ClosedWalk.{point_at}
 use Rattle.pt_core.proofs.Terms.{num, less, times, same_value}
-use Rattle.prefix_moments.specs.Sums.{sum_of, spread_of, chord_cross_of, rightward_of, above_of, IsPenalty}
+use Rattle.prefix_moments.specs.Sums.{sum_of, spread_of, rightward_of, above_of, IsPenalty}
 use Rattle.prefix_moments.proofs.Prefixes.{sum_same}
 use Rattle.prefix_moments.proofs.Summing.{split, squares_at_least}
 use Rattle.prefix_moments.proofs.Totals.{limit_reached}
 use Rattle.half_penalties.specs.HalfPenalties.{GoesOneWay, IsBoundBefore, IsBoundBehind, along_of, cross_from, crosses_of}
+use Rattle.half_penalties.proofs.Naturals.{square_is, natural}
 use Rattle.half_penalties.proofs.Cauchy.{cauchy, with_one_more}
 
 -- a cross product with a chord is the same from both of its ends
@@ -37,13 +38,6 @@ halves_are points i middle j h l =
     let place : (d : ℕ) → i + (p + d) ≡ middle + 1 + d = λ d. omega arith in
     ap (sum_of (λ d. one (i + d))) count ∙ split (λ d. one (i + d)) p q
     ∙ ap (λ z. sum_of (λ d. one (i + d)) p +ℤ z) (sum_same (λ d. one (i + (p + d))) (λ d. other (middle + 1 + d)) q (λ d. ap one (place d) ∙ same (middle + 1 + d)))
-
-pub square_is : (z : ℤ) → z *ℤ z ≡ pos (unsigned_abs z * unsigned_abs z)
-square_is (pos n) = omega (arith, ints)
-square_is (negsuc n) = omega (arith, ints)
-
-pub natural : (z : ℤ) → pos 0 ≤ℤ z → z ≡ pos (unsigned_abs z)
-natural z h = omega (arith, ints)
 
 -- a bound's inequality in natural numbers
 in_naturals : (a : ℕ) (along : ℤ) (weight : ℕ) (total : ℤ) (n : ℕ) → unsigned_abs along ≡ n → pos 0 ≤ℤ total

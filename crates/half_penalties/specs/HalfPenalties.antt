@@ -4,7 +4,11 @@ use Rattle.std.specs.Prelude.{◌≡◌, ℕ, ◌+◌, ◌-◌, ◌*◌, ℤ, po
 use Rattle.pt_core.specs.declared.point.Point.{Point}
 use Rattle.prefix_moments.specs.Sums.{sum_over, rightward_of, above_of}
 
--- how far an offset goes along a diagonal: rightwards and upwards where `slant` is 1, rightwards and downwards where it is -1
+-- it tells one of the two diagonals: 1 the one that rises to the right, -1 the one that falls
+abbrev pub IsSlant : ℤ → Type 0
+IsSlant slant = unsigned_abs slant ≡ 1
+
+-- how far an offset goes along a diagonal, in steps along rows and columns
 abbrev pub along_of : ℤ → ℤ → ℤ → ℤ
 along_of slant right above = right +ℤ slant *ℤ above
 

@@ -1,11 +1,12 @@
 //! What each half of a segment adds to its penalty at least.
-ghost use Rattle.std.specs.Prelude.{◌≡◌, ℕ, ◌+◌, ◌-◌, ◌*◌, ◌<◌, ◌≤◌, ◌^◌, ℤ, pos, ◌-ℤ◌, ◌*ℤ◌, ◌≤ℤ◌, unsigned_abs, length, IfSome};
+ghost use Rattle.std.specs.Prelude.{◌≡◌, ℕ, ◌+◌, ◌-◌, ◌*◌, ◌<◌, ◌≤◌, ◌^◌, ℤ, pos, ◌-ℤ◌, ◌*ℤ◌, ◌≤ℤ◌, unsigned_abs, length, IfSome, IfNone, ◌≢◌, ◌+ℤ◌};
 ghost use Rattle.pt_core.specs.ClosedWalk.{IsClosedWalk, point_at};
 ghost use Rattle.pt_core.specs.OnPage.{AreOnPage, IsOnPage};
 ghost use Rattle.pt_core.specs.declared.limits.TheConstants.{LONGEST_SIDE, MOST_STEPS};
+ghost use Rattle.prefix_moments.specs.Sums.{above_of, rightward_of};
 ghost use Rattle.prefix_moments.specs.Inner.Table.{IsRawOf, without_count};
-ghost use Rattle.half_penalties.specs.HalfPenalties.{along_of, GoesOneWay, IsBoundBefore, IsBoundBehind};
-ghost use Rattle.half_penalties.specs.Inner.Products.{moved_of, products_about, IsSlant};
+ghost use Rattle.half_penalties.specs.HalfPenalties.{along_of, GoesOneWay, IsBoundBefore, IsBoundBehind, IsSlant};
+ghost use Rattle.half_penalties.specs.Inner.Products.{moved_of, products_about};
 
 use crate::bound::bound_by;
 use crate::products::Products;
@@ -50,14 +51,10 @@ impl<'a> Halves<'a> {
         ensures middle { IfSome result (λ halves. halves.middle ≡ middle) }
         ensures one_way { IfSome result (λ halves. (i j : ℕ) → first ≤ i → i ≤ j → j ≤ last
             → GoesOneWay moments.now halves.slant i j) }
+        ensures none { IfNone result ((slant : ℤ) → IsSlant slant → ¬ GoesOneWay moments.now slant first last) }
     {
-        let from = place(points, first);
-        let to = place(points, last);
-        let slant = one_way(
-            offset(from.x, to.x),
-            offset(from.y, to.y),
-            last - first,
-        )?;
+        let way = offset_between(points, first, last);
+        let slant = one_way(way.right, way.above, last - first)?;
         Some(Halves {
             moments,
             points,
@@ -122,11 +119,34 @@ impl<'a> Halves<'a> {
         requires lap { j ≤ length self.now.moments.now }
         ensures { result ≡ products_about self.now.moments.now j i j }
     {
-        let first = place(self.points, i);
-        let last = place(self.points, j);
-        let right = offset(first.x, last.x);
-        let above = offset(first.y, last.y);
-        moved(self.moments.sums(i, j), right, above)
+        let way = offset_between(self.points, i, j);
+        moved(self.moments.sums(i, j), way.right, way.above)
+    }
+}
+
+/// How far one point of a path lies from another.
+#[derive(Clone, Copy)]
+struct Offset {
+    right: i64,
+    above: i64,
+}
+
+/// How far point number `j` of a path lies from point number `i`.
+fn offset_between(points: &[Point], i: u32, j: u32) -> Offset
+    requires on_page { AreOnPage points.now }
+    requires some { 0 < length points.now }
+    requires first { i ≤ length points.now }
+    requires last { j ≤ length points.now }
+    ensures right { result.right ≡ rightward_of points.now i j }
+    ensures above { result.above ≡ above_of points.now i j }
+    ensures right_most { unsigned_abs result.right ≤ LONGEST_SIDE }
+    ensures above_most { unsigned_abs result.above ≤ LONGEST_SIDE }
+{
+    let from = place(points, i);
+    let to = place(points, j);
+    Offset {
+        right: between(from.x, to.x),
+        above: between(from.y, to.y),
     }
 }
 
@@ -146,7 +166,7 @@ fn place(points: &[Point], k: u32) -> Point
 }
 
 /// How far one coordinate lies from another.
-fn offset(from: i32, to: i32) -> i64
+fn between(from: i32, to: i32) -> i64
     requires from_low { pos 0 ≤ℤ from }
     requires from_high { from ≤ℤ pos LONGEST_SIDE }
     requires to_low { pos 0 ≤ℤ to }
@@ -163,6 +183,8 @@ fn one_way(right: i64, above: i64, steps: u32) -> Option<i64>
     requires above { unsigned_abs above ≤ LONGEST_SIDE }
     ensures slant { IfSome result (λ slant. IsSlant slant) }
     ensures along { IfSome result (λ slant. unsigned_abs (along_of slant right above) ≡ steps) }
+    ensures rising { IfNone result (unsigned_abs (right +ℤ above) ≢ steps) }
+    ensures falling { IfNone result (unsigned_abs (right -ℤ above) ≢ steps) }
 {
     if (right + above).unsigned_abs() == u64::from(steps) {
         return Some(1);

@@ -1,5 +1,5 @@
 -- The sums of the squares and of the products of some points' offsets from one point.
-use Rattle.std.specs.Prelude.{◌≡◌, ℕ, ◌+◌, ◌*◌, ◌<◌, ◌≤◌, ◌^◌, ℤ, pos, ◌+ℤ◌, ◌-ℤ◌, ◌*ℤ◌, ◌≤ℤ◌, unsigned_abs, List}
+use Rattle.std.specs.Prelude.{ℕ, ◌+◌, ◌*◌, ◌<◌, ◌≤◌, ◌^◌, ℤ, pos, ◌+ℤ◌, ◌-ℤ◌, ◌*ℤ◌, ◌≤ℤ◌, unsigned_abs, List}
 use Rattle.pt_core.specs.declared.point.Point.{Point}
 use Rattle.pt_core.specs.declared.limits.TheConstants.{LONGEST_SIDE, MOST_STEPS}
 use Rattle.prefix_moments.specs.Sums.{sum_over, rightward_of, above_of}
@@ -7,10 +7,6 @@ use Rattle.prefix_moments.specs.Inner.Table.{spread_by, offsets_of, without_coun
 use Rattle.prefix_moments.specs.declared.sums.Sums.{Sums}
 use Rattle.half_penalties.specs.declared.products.Products.{Products}
 use Rattle.half_penalties.specs.HalfPenalties.{along_of}
-
--- it is one of the two diagonals
-abbrev pub IsSlant : ℤ → Type 0
-IsSlant slant = unsigned_abs slant ≡ 1
 
 -- those of the offsets of the points from number lo to number hi, from point number o
 abbrev pub products_about : List Point → ℕ → ℕ → ℕ → Products
@@ -49,6 +45,6 @@ IsBoundBy p slant weight bound =
 
 -- whole numbers show that it is one, by the sum of squares along the diagonal and the determinant
 pub record IsShown (determinant along : ℤ) (weight bound : ℕ) : Type 0 where
-  pub some : pos 0 ≤ℤ (along -ℤ pos 1)
+  pub some : pos 1 ≤ℤ along
   pub reached : (pos (bound * bound) *ℤ along) ≤ℤ (pos (65536 * weight) *ℤ determinant)
   pub small : bound < 2 ^ 24

@@ -1,4 +1,4 @@
-use Rattle.std.proofs.Common.{sym, subst, ℕ, ℤ, ◌≤◌, ◌^◌, unsigned_abs}
+use Rattle.std.proofs.Common.{sym, subst, ℤ, ◌≤◌, ◌^◌, unsigned_abs}
 use Rattle.half_penalties.proofs.Fitting.{along_fits, along_fits_at_first, along_is, along_most}
 use Rattle.half_penalties.proofs.bound.along_squares.Goals as goal
 

@@ -1,5 +1,4 @@
 use Rattle.std.proofs.Common.{arith}
-use Rattle.std.proofs.lemmas.Int.{ints}
 use Rattle.half_penalties.proofs.Fitting.{less_product_is}
 use Rattle.half_penalties.proofs.halves.less_product.Goals as goal
 

@@ -1,5 +1,4 @@
-use Rattle.std.proofs.Common.{refl, sym, subst, arith}
-use Rattle.pt_core.specs.OnPage.{IsOnPage}
+use Rattle.std.proofs.Common.{refl, arith}
 use Rattle.prefix_moments.proofs.Rows.{listed, listed_on_page}
 use Rattle.half_penalties.proofs.halves.place.Goals as goal
 
