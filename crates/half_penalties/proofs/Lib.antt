@@ -1,4 +1,5 @@
 pub mod Cauchy
+pub mod Examples
 pub mod Fitting
 pub mod Forms
 pub mod Naturals

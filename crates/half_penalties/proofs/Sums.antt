@@ -35,6 +35,10 @@ module _ (points : List Point) (o lo hi : ℕ) where
   crosses_at_least : (right above : ℤ) → pos 0 ≤ℤ crosses_of points o lo hi right above
   crosses_at_least right above = squares_at_least (λ d. cross_from points o (lo + d) right above) (hi - lo + 1)
 
+  pub squares_are : (right above : ℤ)
+      → pos 0 ≤ℤ spread_by ((products_about points o lo hi).xx) ((products_about points o lo hi).xy) ((products_about points o lo hi).yy) right above
+  squares_are right above = subst (λ z. pos 0 ≤ℤ z) (crosses_are right above) (crosses_at_least right above)
+
   -- a bound by the sums is one of the half
   pub half_bound : (slant : ℤ) (weight bound : ℕ) → IsBoundBy (products_about points o lo hi) slant weight bound → IsHalfBound points slant o lo hi weight bound
   half_bound slant weight bound is = λ right above.
@@ -63,7 +67,7 @@ module _ (points : List Point) (o lo hi : ℕ) where
         xx = products_most (rightward_of points o) (rightward_of points o) x x short;
         xy = products_most (rightward_of points o) (above_of points o) x y short;
         yy = products_most (above_of points o) (above_of points o) y y short;
-        squares = λ right above. subst (λ z. pos 0 ≤ℤ z) (crosses_are right above) (crosses_at_least right above);
+        squares = squares_are;
       }
 
 -- offsets from the first point of a segment less that of the last one are those from the last one
