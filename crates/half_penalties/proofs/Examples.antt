@@ -3,7 +3,7 @@ use Rattle.std.proofs.Common.{◌≡◌, ℕ, pos, negsuc, List, [], ◌∷◌, 
 use Rattle.std.proofs.lemmas.Int.{ints}
 use Rattle.pt_core.specs.declared.point.Point.{Point}
 use Rattle.half_penalties.specs.HalfPenalties.{GoesOneWay, IsBoundBefore, crosses_of}
-use Rattle.half_penalties.specs.Inner.Products.{products_about, AreSums}
+use Rattle.half_penalties.specs.Inner.Products.{products_about, AreHalfSums}
 use Rattle.half_penalties.proofs.Forms.{bound_shown}
 use Rattle.half_penalties.proofs.Sums.{half_bound, squares_are}
 
@@ -34,7 +34,7 @@ beside = refl
 so_much : IsBoundBefore round (negsuc 0) 2 0 161
 unfolding round
 so_much =
-    let sums : AreSums (products_about round 0 0 2) = record { xx = omega arith; xy = omega arith; yy = omega arith; squares = squares_are round 0 0 2 } in
+    let sums : AreHalfSums (products_about round 0 0 2) = record { xx = omega arith; xy = omega arith; yy = omega arith; squares = squares_are round 0 0 2 } in
     half_bound round 0 0 2 (negsuc 0) 2 161
     (bound_shown (products_about round 0 0 2) (negsuc 0) 2 161 sums refl (record { some = omega (arith, ints); reached = omega (arith, ints); small = omega arith }))
 

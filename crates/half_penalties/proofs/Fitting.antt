@@ -8,10 +8,10 @@ use Rattle.pt_core.specs.declared.limits.TheConstants.{LONGEST_SIDE, MOST_STEPS}
 use Rattle.pt_core.proofs.Sizes.{back, long_back, product_most}
 use Rattle.half_penalties.specs.declared.products.Products.{Products}
 use Rattle.half_penalties.specs.HalfPenalties.{IsSlant}
-use Rattle.half_penalties.specs.Inner.Products.{along_squares_of, AreSums}
+use Rattle.half_penalties.specs.Inner.Products.{along_squares_of, AreHalfSums}
 
 -- the sum of the squares along a diagonal
-module _ (p : Products) (slant : ℤ) (sums : AreSums p) (is : IsSlant slant) where
+module _ (p : Products) (slant : ℤ) (sums : AreHalfSums p) (is : IsSlant slant) where
   mixed_most : unsigned_abs (slant *ℤ p.xy) < 2 ^ 46
   mixed_most = let xy = sums.xy in let most = product_most slant p.xy 1 (unsigned_abs p.xy) (omega (arith, is)) (omega arith) in omega arith
 

@@ -7,7 +7,7 @@ use Rattle.pt_core.proofs.Terms.{Term, num, plus, less, times, same_value}
 use Rattle.prefix_moments.specs.Inner.Table.{spread_by}
 use Rattle.half_penalties.specs.declared.products.Products.{Products}
 use Rattle.half_penalties.specs.HalfPenalties.{along_of, IsSlant}
-use Rattle.half_penalties.specs.Inner.Products.{along_squares_of, determinant_of, AreSums, IsBoundBy, IsShown}
+use Rattle.half_penalties.specs.Inner.Products.{along_squares_of, determinant_of, AreHalfSums, IsBoundBy, IsShownBound}
 use Rattle.half_penalties.proofs.Naturals.{square_is, natural}
 
 -- ---- identities, for either diagonal
@@ -138,7 +138,7 @@ weighed_squares bound weight squares spread along determinant rest some at_least
     rw (square_is along, is_t) (omega (arith, ints, most))
 
 -- what whole numbers show is a bound
-pub bound_shown : (p : Products) (slant : ℤ) (weight bound : ℕ) → AreSums p → IsSlant slant → IsShown (determinant_of p) (along_squares_of p slant) weight bound
+pub bound_shown : (p : Products) (slant : ℤ) (weight bound : ℕ) → AreHalfSums p → IsSlant slant → IsShownBound (determinant_of p) (along_squares_of p slant) weight bound
     → IsBoundBy p slant weight bound
 bound_shown p slant weight bound sums is shown = λ right above.
     weighed_squares (bound * bound) (65536 * weight) (along_squares_of p slant) (spread_by p.xx p.xy p.yy right above) (along_of slant right above) (determinant_of p)
@@ -146,7 +146,7 @@ bound_shown p slant weight bound sums is shown = λ right above.
     shown.some (sums.squares right above) (squares_apart p slant right above is) shown.reached
 
 -- and so is zero
-pub zero_bound : (p : Products) (slant : ℤ) (weight : ℕ) → AreSums p → IsBoundBy p slant weight 0
+pub zero_bound : (p : Products) (slant : ℤ) (weight : ℕ) → AreHalfSums p → IsBoundBy p slant weight 0
 zero_bound p slant weight sums = λ right above.
     let spread : ℤ = spread_by p.xx p.xy p.yy right above in
     let along : ℤ = along_of slant right above in

@@ -15,7 +15,7 @@ use Rattle.prefix_moments.proofs.Rows.{products_by}
 use Rattle.prefix_moments.proofs.Summing.{spread_is, squares_at_least, sum_most}
 use Rattle.half_penalties.specs.declared.products.Products.{Products}
 use Rattle.half_penalties.specs.HalfPenalties.{IsHalfBound, cross_from, crosses_of}
-use Rattle.half_penalties.specs.Inner.Products.{moved_of, products_about, AreSums, IsBoundBy}
+use Rattle.half_penalties.specs.Inner.Products.{moved_of, products_about, AreHalfSums, IsBoundBy}
 use Rattle.half_penalties.proofs.Naturals.{natural, square_is}
 use Rattle.half_penalties.specs.HalfPenalties.{along_of}
 
@@ -59,7 +59,7 @@ module _ (points : List Point) (o lo hi : ℕ) where
       omega (arith, most)
 
   -- they are as small as those of a segment
-  pub are_sums : AreOnPage points → hi - lo ≤ MOST_STEPS → AreSums (products_about points o lo hi)
+  pub are_sums : AreOnPage points → hi - lo ≤ MOST_STEPS → AreHalfSums (products_about points o lo hi)
   are_sums on_page short =
       let x = right_most points on_page o in
       let y = above_most points on_page o in

@@ -2,7 +2,7 @@
 ghost use Rattle.std.specs.Prelude.{◌≡◌, ℕ, ◌*◌, ◌<◌, ◌≤◌, ◌^◌, ℤ, pos, ◌*ℤ◌, unsigned_abs, IsTrue};
 ghost use Rattle.pt_core.specs.declared.limits.TheConstants.{MOST_STEPS};
 ghost use Rattle.half_penalties.specs.HalfPenalties.{IsSlant};
-ghost use Rattle.half_penalties.specs.Inner.Products.{along_squares_of, determinant_of, AreSums, IsBoundBy, IsShown};
+ghost use Rattle.half_penalties.specs.Inner.Products.{along_squares_of, determinant_of, AreHalfSums, IsBoundBy, IsShownBound};
 
 use crate::products::Products;
 use std::num::{nearest_i64_to_f64, saturating_f64_to_i64};
@@ -18,7 +18,7 @@ const MOST_GUESSED: u64 = (1 << 24) - 1;
 //
 // It is guessed by floating point, and whole numbers show that the guess is one. Nothing is proved of the guess.
 pub(crate) fn bound_by(products: Products, slant: i64, weight: u32) -> u64
-    requires sums { AreSums products }
+    requires sums { AreHalfSums products }
     requires slant { IsSlant slant }
     requires weight { weight ≤ MOST_STEPS }
     ensures bound { IsBoundBy products slant weight result }
@@ -34,7 +34,7 @@ pub(crate) fn bound_by(products: Products, slant: i64, weight: u32) -> u64
 
 /// The sum of the squares of how far the offsets go along the diagonal.
 fn along_squares(products: Products, slant: i64) -> i64
-    requires sums { AreSums products }
+    requires sums { AreHalfSums products }
     requires slant { IsSlant slant }
     ensures value { result ≡ along_squares_of products slant }
     ensures most { unsigned_abs result ≤ 2 ^ 48 }
@@ -44,7 +44,7 @@ fn along_squares(products: Products, slant: i64) -> i64
 
 /// The determinant of the matrix of the sums.
 fn determinant(products: Products) -> i128
-    requires { AreSums products }
+    requires { AreHalfSums products }
     ensures value { result ≡ determinant_of products }
     ensures most { unsigned_abs result ≤ 2 ^ 93 }
 {
@@ -67,7 +67,7 @@ fn is_bound(determinant: i128, along: i64, weight: u32, bound: u64) -> bool
     requires determinant { unsigned_abs determinant ≤ 2 ^ 93 }
     requires along { unsigned_abs along ≤ 2 ^ 48 }
     requires weight { weight ≤ MOST_STEPS }
-    ensures { IsTrue result → IsShown determinant along weight bound }
+    ensures { IsTrue result → IsShownBound determinant along weight bound }
 {
     if along <= 0 || MOST_GUESSED < bound {
         return false;

@@ -17,7 +17,7 @@ products_about points o lo hi = record {
 }
 
 -- they are as small as those of a segment's points are on a page, and give no sum of squares below zero
-pub record AreSums (p : Products) : Type 0 where
+pub record AreHalfSums (p : Products) : Type 0 where
   pub xx : unsigned_abs p.xx ≤ (MOST_STEPS + 1) * (LONGEST_SIDE * LONGEST_SIDE)
   pub xy : unsigned_abs p.xy ≤ (MOST_STEPS + 1) * (LONGEST_SIDE * LONGEST_SIDE)
   pub yy : unsigned_abs p.yy ≤ (MOST_STEPS + 1) * (LONGEST_SIDE * LONGEST_SIDE)
@@ -44,7 +44,7 @@ IsBoundBy p slant weight bound =
     ≤ℤ (pos (65536 * weight) *ℤ spread_by p.xx p.xy p.yy right above)
 
 -- whole numbers show that it is one, by the sum of squares along the diagonal and the determinant
-pub record IsShown (determinant along : ℤ) (weight bound : ℕ) : Type 0 where
+pub record IsShownBound (determinant along : ℤ) (weight bound : ℕ) : Type 0 where
   pub some : pos 1 ≤ℤ along
   pub reached : (pos (bound * bound) *ℤ along) ≤ℤ (pos (65536 * weight) *ℤ determinant)
   pub small : bound < 2 ^ 24

@@ -1,6 +1,6 @@
 use Rattle.std.proofs.Common.{◌-◌, sym, subst, arith}
 use Rattle.pt_core.proofs.Sizes.{back}
-use Rattle.half_penalties.specs.Inner.Products.{AreSums}
+use Rattle.half_penalties.specs.Inner.Products.{AreHalfSums}
 use Rattle.half_penalties.proofs.Sums.{are_sums, half_bound, zero_half}
 use Rattle.half_penalties.proofs.halves.Halves.before.Goals as goal
 
@@ -12,7 +12,7 @@ returns-then-i-self-clause-bound c =
 pub bound_by-requires-clause-sums : goal.bound_by-requires-clause-sums
 bound_by-requires-clause-sums c =
     let h = c.args.self.now in
-    subst AreSums (sym c.products_from.ensures) (are_sums h.moments.now c.args.i c.args.i h.middle h.on_page c.requires.steps)
+    subst AreHalfSums (sym c.products_from.ensures) (are_sums h.moments.now c.args.i c.args.i h.middle h.on_page c.requires.steps)
 
 pub returns-clause-bound : goal.returns-clause-bound
 returns-clause-bound c =

@@ -1,6 +1,6 @@
 use Rattle.std.proofs.Common.{◌≡◌, ℕ, ◌+◌, ◌-◌, sym, subst, arith}
 use Rattle.pt_core.proofs.Sizes.{back}
-use Rattle.half_penalties.specs.Inner.Products.{AreSums}
+use Rattle.half_penalties.specs.Inner.Products.{AreHalfSums}
 use Rattle.half_penalties.specs.HalfPenalties.{IsHalfBound}
 use Rattle.half_penalties.proofs.Sums.{are_sums, half_bound, zero_half}
 use Rattle.half_penalties.proofs.halves.Halves.behind.Goals as goal
@@ -13,7 +13,7 @@ returns-then-j-next-clause-bound c =
 pub bound_by-requires-clause-sums : goal.bound_by-requires-clause-sums
 bound_by-requires-clause-sums c =
     let h = c.args.self.now in
-    subst AreSums (sym c.products_to.ensures) (are_sums h.moments.now c.args.j (h.middle + 1) c.args.j h.on_page (omega (arith, c.requires.steps)))
+    subst AreHalfSums (sym c.products_to.ensures) (are_sums h.moments.now c.args.j (h.middle + 1) c.args.j h.on_page (omega (arith, c.requires.steps)))
 
 pub returns-clause-bound : goal.returns-clause-bound
 returns-clause-bound c =
