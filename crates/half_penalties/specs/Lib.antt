@@ -1,1 +1,2 @@
 pub mod HalfPenalties
+pub mod Inner

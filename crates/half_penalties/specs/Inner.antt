@@ -1,0 +1,2 @@
+-- What inner contracts alone speak of: no promise rests on it.
+pub mod Products
