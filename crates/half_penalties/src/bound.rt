@@ -17,7 +17,7 @@ const MOST_GUESSED: u64 = (1 << 24) - 1;
 // square more. So what is a bound for the determinant over that number is one for each chord.
 //
 // It is guessed by floating point, and whole numbers show that the guess is one. Nothing is proved of the guess.
-pub(crate) fn bound_by(products: Products, slant: i64, weight: u32) -> u64
+pub(crate) fn bound_by(products: Products, slant: i64, weight: u32) -> u32
     requires sums { AreHalfSums products }
     requires slant { IsSlant slant }
     requires weight { weight ≤ MOST_STEPS }
@@ -27,7 +27,7 @@ pub(crate) fn bound_by(products: Products, slant: i64, weight: u32) -> u64
     let along = along_squares(products, slant);
     let guess = near_bound(products, along, weight);
     if is_bound(determinant(products), along, weight, guess) {
-        return guess;
+        return guess as u32;
     }
     0
 }

@@ -64,7 +64,7 @@ impl<'a> Halves<'a> {
     }
 
     /// How much the half from point number `i` to the middle adds to the penalty of each segment at least.
-    pub fn before(&self, i: u32) -> u64
+    pub fn before(&self, i: u32) -> u32
         requires order { i ≤ self.now.middle }
         requires steps { self.now.middle - i ≤ MOST_STEPS }
         requires inside { self.now.middle < length self.now.moments.now }
@@ -82,7 +82,7 @@ impl<'a> Halves<'a> {
     }
 
     /// How much the half from the point after the middle to point number `j` adds at least.
-    pub fn behind(&self, j: u32) -> u64
+    pub fn behind(&self, j: u32) -> u32
         requires beyond { self.now.middle < j }
         requires steps { j - self.now.middle ≤ MOST_STEPS }
         requires lap { j ≤ length self.now.moments.now }
