@@ -3,6 +3,7 @@ pub mod Counting
 pub mod Exists
 pub mod Greedy
 pub mod Leasts
+pub mod Limits
 pub mod Opening
 pub mod Placing
 pub mod Reaching
