@@ -2,8 +2,10 @@ pub mod Best
 pub mod Counting
 pub mod Exists
 pub mod Greedy
+pub mod Keeping
 pub mod Leasts
 pub mod Limits
+pub mod Narrowing
 pub mod Opening
 pub mod Placing
 pub mod Reaching
@@ -13,4 +15,5 @@ pub mod Slots
 pub mod Small
 pub mod Stepping
 pub mod Vertices
+pub mod Windowing
 mod Examples
