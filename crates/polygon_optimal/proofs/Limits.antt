@@ -154,10 +154,3 @@ module _ (cost whole slots : ℕ → ℕ) (bounds : ℕ → Bound) (bound : Boun
     leads = same_next onward by_slots;
     small = omega arith;
   }
-
--- it counts as less than 2^56
-pub onward_small : (cost_by : ℕ → ℕ) (begin end limit rest : ℕ) (bound : Bound) (onward : Onward) → limit < 2 ^ 56
-    → IsOnwardBy cost_by begin end limit rest bound onward → onward.cost < 2 ^ 56
-onward_small cost_by begin end limit rest bound onward low (left_out above far) = omega arith
-onward_small cost_by begin end limit rest bound onward low (too_dear cheapest by_slots above far) = omega arith
-onward_small cost_by begin end limit rest bound onward low (kept by_slots within) = omega arith

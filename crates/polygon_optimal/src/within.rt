@@ -98,7 +98,7 @@ pub(crate) fn fill_costs_within(
 {
     let size = segments.lasts.len();
     costs[slot(costs, size)] = 0;
-    let mut rest = u64::from(bounds[size].behind);
+    let mut rest = left_by(bounds[size], 0);
     for window in (0..farthest.len() - 1).rev() {
         rest = fill_window_within(segments, begins, farthest, bounds, window, limit, rest, costs, nexts, roots);
     }
@@ -148,11 +148,12 @@ fn fill_window_within(
     let mut nearest = nearest_from(segments, farthest[window], begins[window + 1]);
     loop {
         let first = nearest.from as usize;
+        let bound = bounds[first];
         let guess = nexts[first + 1];
-        let onward = onward_within(segments, nearest, bounds[first], limit, rest, guess, costs, roots);
+        let onward = onward_within(segments, nearest, bound, limit, rest, guess, costs, roots);
         costs[slot(costs, first)] = onward.cost;
         nexts[first] = onward.next;
-        least = least.min(u64::from(bounds[first].behind) + onward.cost);
+        least = least.min(left_by(bound, onward.cost));
         if nearest.from == begins[window] {
             return least;
         }
@@ -181,8 +182,10 @@ fn onward_within(
     requires small { (k : ℕ) → nearest.to ≤ k → k ≤ slice_index segments.now.lasts.items nearest.from
         → slice_index costs.now (slot_of (length costs.now) k) < 2 ^ 56 }
     requires floor { bound.floor < 2 ^ 56 }
+    requires limit { limit < 2 ^ 56 }
     requires rest { rest < 2 ^ 57 }
-    ensures { IsOnwardBy
+    ensures small { result.cost < 2 ^ 56 }
+    ensures onward { IsOnwardBy
         (λ k. penalty_of segments.now.moments.now nearest.entry.from k + slice_index costs.now (slot_of (length costs.now) k))
         nearest.entry.to (slice_index segments.now.lasts.items nearest.entry.from + 1) limit rest bound result }
 {
@@ -201,4 +204,14 @@ fn onward_within(
         };
     }
     onward
+}
+
+/// What is left from a vertex whose best way on costs so much, with what the second half of a segment to it adds.
+#[inline(always)]
+fn left_by(bound: Bound, cost: u64) -> u64
+    requires { cost < 2 ^ 56 }
+    ensures sum { result ≡ bound.behind + cost }
+    ensures small { result < 2 ^ 57 }
+{
+    u64::from(bound.behind) + cost
 }
