@@ -5,9 +5,9 @@ use Rattle.std.specs.Prelude.{slice_index}
 use Rattle.polygon_optimal.specs.Inner.Bounds.{AreWindows}
 use Rattle.polygon_optimal.specs.Inner.Lasts.{AreRising, LeadsOn}
 use Rattle.polygon_optimal.specs.Inner.Search.{counts_of}
-use Rattle.polygon_optimal.proofs.Counting.{counted, last_keeps, rises}
+use Rattle.polygon_optimal.proofs.Counting.{counted, last_keeps, rises, some_left}
 use Rattle.polygon_optimal.proofs.Leasts.{IsBeforeWindow}
-use Rattle.polygon_optimal.proofs.Opening.{HasNextWindow, far_below, vertex_here}
+use Rattle.polygon_optimal.proofs.Opening.{HasNextWindow, begins_at_start, far_below, vertex_here}
 use Rattle.polygon_optimal.proofs.Stepping.{windows}
 
 module _ (size : ℕ) (lasts begins farthest : List ℕ) (leads : (i : ℕ) → i < size → LeadsOn size i (slice_index lasts i)) (rising : AreRising size lasts)
@@ -71,3 +71,26 @@ module _ (size : ℕ) (lasts begins farthest : List ℕ) (leads : (i : ℕ) → 
   pub all_vertices : (i : ℕ) → slice_index begins window ≤ i → i ≤ far → IsBeforeWindow size lasts (counts_of size lasts) i begin
   all_vertices i above near =
       vertex_here size lasts (counts_of size lasts) farthest window begin next_window i near (all_reach i above near)
+
+-- the last window is the end
+pub last_at_end : (size : ℕ) (lasts begins farthest : List ℕ) → ((i : ℕ) → i < size → LeadsOn size i (slice_index lasts i)) → AreRising size lasts
+    → AreWindows size lasts begins farthest → (window : ℕ) → window + 1 ≡ length farthest → slice_index begins window ≡ size
+last_at_end size lasts begins farthest leads rising are window last =
+    let counts = counts_of size lasts in
+    let known = counted size lasts leads rising in
+    let opens = are.each window (omega (arith, are.count)) in
+    let within = opens.within in
+    elim (cases_lt (slice_index begins window) size) [
+      | inl before ↦ absurd (omega (
+        arith,
+        some_left size lasts counts known (slice_index begins window) before,
+        opens.left,
+        are.ends.count,
+      ))
+      | inr end ↦ omega arith
+    ]
+
+-- and the first one begins at the start
+pub first_at_start : (size : ℕ) (lasts begins farthest : List ℕ) → AreWindows size lasts begins farthest → slice_index begins 0 ≡ 0
+first_at_start size lasts begins farthest are =
+    begins_at_start size (counts_of size lasts) (slice_index begins 0) (are.each 0 (omega (arith, are.count, are.ends.count)))
