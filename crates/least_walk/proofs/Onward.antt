@@ -78,7 +78,7 @@ module _ (size : ℕ) (is_allowed : ℕ → ℕ → Type 0) where
     }
 
     -- the least way to go on has the fewest steps
-    length-least : (i n : ℕ) (rest : List ℕ) → IsLeastFrom size is_allowed cost i rest → IsFewestFrom size is_allowed i n
+    pub length-least : (i n : ℕ) (rest : List ℕ) → IsLeastFrom size is_allowed cost i rest → IsFewestFrom size is_allowed i n
         → length rest ≡ n
     length-least i n rest least fewest =
         let one = length-steps_from i rest in

@@ -3,6 +3,7 @@ pub mod Counting
 pub mod Exists
 pub mod Greedy
 pub mod Keeping
+pub mod Leading
 pub mod Leasts
 pub mod Limits
 pub mod Narrowing
