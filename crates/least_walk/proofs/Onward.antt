@@ -78,7 +78,7 @@ module _ (size : ℕ) (is_allowed : ℕ → ℕ → Type 0) where
     }
 
     -- the least way to go on has the fewest steps
-    length-least : (i n : ℕ) (rest : List ℕ) → IsLeastFrom size is_allowed cost i rest → IsFewestFrom size is_allowed i n
+    pub length-least : (i n : ℕ) (rest : List ℕ) → IsLeastFrom size is_allowed cost i rest → IsFewestFrom size is_allowed i n
         → length rest ≡ n
     length-least i n rest least fewest =
         let one = length-steps_from i rest in
@@ -124,6 +124,25 @@ module _ (size : ℕ) (is_allowed : ℕ → ℕ → Type 0) where
         → (after : List ℕ) × (rest ≡ j ∷ after) × IsLeastFrom size is_allowed cost j after
     goes_next i j rest least next =
         (next.rest, same_least i rest (j ∷ next.rest) least next.is_least, least_tail i j next.rest next.is_least)
+
+    -- what it costs is one number
+    pub least_cost_is_one : (i c d : ℕ) → IsLeastCost size is_allowed cost i c → IsLeastCost size is_allowed cost i d → c ≡ d
+    least_cost_is_one i c d one other =
+        sym one.costs ∙ ap (λ rest. total_cost cost (i ∷ rest)) (same_least i one.rest other.rest one.is_least other.is_least) ∙ other.costs
+
+    -- and it is what the first step costs and what is left to pay from there
+    pub least_cost_step : (i j c : ℕ) → IsLeastCost size is_allowed cost i c → IsLeastNext size is_allowed cost i j
+        → (d : ℕ) × IsLeastCost size is_allowed cost j d × (c ≡ cost i j + d)
+    least_cost_step i j c least next = (
+      total_cost cost (j ∷ next.rest),
+      record {
+        rest = next.rest;
+        is_least = least_tail i j next.rest next.is_least;
+        costs = refl;
+      },
+      sym least.costs ∙ ap (λ rest. total_cost cost (i ∷ rest)) (same_least i least.rest (j ∷ next.rest) least.is_least next.is_least)
+      ∙ total_cost-cons cost i j next.rest,
+    )
 
     -- the step to j keeps to the fewest; of all such steps it is the cheapest, and of several the shortest
     module _ (counts costs : List ℕ) (i j : ℕ) (below : i < size) (onwards : i < j) (within : j ≤ size)

@@ -39,6 +39,17 @@ total_small size lasts cost cheap i (j ∷ rest) goes =
     let below = goes_below size (IsUpToLast lasts) j rest goes.2 in
     omega (arith, total_cost-cons cost i j rest, cheap.each i j (omega arith) goes.1, total_small size lasts cost cheap j rest goes.2)
 
+-- so does the best way on
+pub least_small : (size : ℕ) (lasts : List ℕ) (cost : ℕ → ℕ → ℕ) → AreCheap size lasts cost
+    → (i c : ℕ) → IsLeastCost size (IsUpToLast lasts) cost i c → c < 2 ^ 56
+least_small size lasts cost cheap i c least = omega (
+  arith,
+  cheap.few,
+  least.costs,
+  goes_below size (IsUpToLast lasts) i least.rest least.is_least.goes_on,
+  total_small size lasts cost cheap i least.rest least.is_least.goes_on,
+)
+
 module _ (size : ℕ) (lasts counts : List ℕ) (known : AreCounted size lasts counts) (cost : ℕ → ℕ → ℕ) (cheap : AreCheap size lasts cost)
     (costs : List ℕ) (i begin : ℕ) (here : IsBeforeWindow size lasts counts i begin)
     (later : HasCosts size (IsUpToLast lasts) cost (i + 1) costs) where
@@ -54,27 +65,27 @@ module _ (size : ℕ) (lasts counts : List ℕ) (known : AreCounted size lasts c
         last_keeps size lasts counts known i here.below,
       )
 
-  least_there : (k : ℕ) → IsUpToLast lasts i k → slice_index counts k + 1 ≡ slice_index counts i
-      → IsLeastCost size (IsUpToLast lasts) cost k (slice_index costs k)
-  least_there k allowed kept =
+  place_at : (k : ℕ) → IsUpToLast lasts i k → slice_index counts k + 1 ≡ slice_index counts i → IsPlace size (IsUpToLast lasts) k
+  place_at k allowed kept =
       let on = known.leads i here.below in
-      let within : k ≤ size = omega (arith, allowed.1, on.within) in
       let place = here.place in
-      later k (omega (arith, allowed.0)) within
-      (suc place.0, place_onward size (IsUpToLast lasts) counts known.fewest place.0 i k place.1 allowed.0 within allowed kept)
+      (suc place.0, place_onward size (IsUpToLast lasts) counts known.fewest place.0 i k place.1 allowed.0 (omega (arith, allowed.1, on.within)) allowed kept)
+
+  least_at : (k : ℕ) → IsUpToLast lasts i k → slice_index counts k + 1 ≡ slice_index counts i
+      → IsLeastCost size (IsUpToLast lasts) cost k (slice_index costs k)
+  least_at k allowed kept =
+      let on = known.leads i here.below in
+      later k (omega (arith, allowed.0)) (omega (arith, allowed.1, on.within)) (place_at k allowed kept)
+
+  -- it leads to a vertex, of which the list has what the best way on costs
+  pub place_there : (k : ℕ) → begin ≤ k → k ≤ slice_index lasts i → IsPlace size (IsUpToLast lasts) k
+  place_there k above near = place_at k (omega (arith, here.begins.above), near) (keeps k above near)
+
+  pub least_there : (k : ℕ) → begin ≤ k → k ≤ slice_index lasts i → IsLeastCost size (IsUpToLast lasts) cost k (slice_index costs k)
+  least_there k above near = least_at k (omega (arith, here.begins.above), near) (keeps k above near)
 
   pub costs_small : (k : ℕ) → begin ≤ k → k ≤ slice_index lasts i → slice_index costs k < 2 ^ 56
-  costs_small k above near =
-      let on = known.leads i here.below in
-      let onwards : i < k = omega (arith, here.begins.above) in
-      let least = least_there k (onwards, near) (keeps k above near) in
-      omega (
-        arith,
-        cheap.few,
-        least.costs,
-        goes_below size (IsUpToLast lasts) k least.rest least.is_least.goes_on,
-        total_small size lasts cost cheap k least.rest least.is_least.goes_on,
-      )
+  costs_small k above near = least_small size lasts cost cheap k (slice_index costs k) (least_there k above near)
 
   module _ (onward : Onward)
       (best : HasCheapest (λ k. cost i k + slice_index costs k) begin (slice_index lasts i + 1) onward) where
@@ -102,4 +113,4 @@ module _ (size : ℕ) (lasts counts : List ℕ) (known : AreCounted size lasts c
     best_onward =
         let on = known.leads i here.below in
         cheapest_onward size (IsUpToLast lasts) cost cheap.few (λ i j inside up. omega (arith, cheap.each i j inside up)) counts costs i (slice_index lasts i + 1) onward.cost onward.next here.below
-        (λ k above within. known.fewest k (omega arith) within) (λ k above within allowed kept. least_there k allowed kept) (λ k allowed. omega (arith, allowed.1)) (omega (arith, on.within)) is_cheapest
+        (λ k above within. known.fewest k (omega arith) within) (λ k above within allowed kept. least_at k allowed kept) (λ k allowed. omega (arith, allowed.1)) (omega (arith, on.within)) is_cheapest

@@ -5,7 +5,11 @@ pub mod Floors
 pub mod Greedy
 pub mod Halving
 pub mod Joining
+pub mod Keeping
+pub mod Leading
 pub mod Leasts
+pub mod Limits
+pub mod Narrowing
 pub mod Opening
 pub mod Placing
 pub mod Reaching
@@ -16,4 +20,5 @@ pub mod Small
 pub mod Stepping
 pub mod Vertices
 pub mod Windowed
+pub mod Windowing
 mod Examples

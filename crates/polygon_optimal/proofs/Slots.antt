@@ -29,7 +29,7 @@ pub masked : (slots k : ℕ) → IsPowerOfTwo slots → bit_and k (slots - 1) �
 masked slots k (n, is) = rw is (and_mask k n)
 
 -- two points that are nearer than there are slots have slots of their own
-apart : (slots i k : ℕ) → i < k → k < i + slots → ¬ (slot_of slots k ≡ slot_of slots i)
+pub apart : (slots i k : ℕ) → i < k → k < i + slots → ¬ (slot_of slots k ≡ slot_of slots i)
 apart slots i k above near same =
     let at_i = div-add-mod i slots in
     let at_k = div-add-mod k slots in

@@ -18,7 +18,7 @@ ghost use Rattle.least_walk.specs.Inner.Suffix.{HasNexts, IsFewestFrom, IsLeastC
 ghost use Rattle.polygon_optimal.specs.Inner.Lasts.{IsUpToLast};
 ghost use Rattle.prefix_moments.specs.Sums.{spread_of, IsPenalty};
 ghost use Rattle.polygon_optimal.specs.Polygon.{penalty_of};
-ghost use Rattle.polygon_optimal.specs.Inner.Search.{AreEnoughSlots, AreKept, AreWindowEnds, BeginsWindow, HasCheapest, IsCheaperIn, counts_of, slot_of};
+ghost use Rattle.polygon_optimal.specs.Inner.Search.{AreEnoughSlots, AreKept, AreWindowEnds, BeginsWindow, HasCheapest, IsCheaperIn, LeadsAlong, counts_of, slot_of};
 
 use crate::room::{SearchRoom, make_places};
 use crate::segments::Segments;
@@ -112,7 +112,7 @@ pub(crate) fn walk_along(
     requires count { IsFewestFrom (length segments.now.moments.now) (IsUpToLast segments.now.lasts.items) 0 count }
     requires cost { IsLeastCost (length segments.now.moments.now)
         (IsUpToLast segments.now.lasts.items) (penalty_of segments.now.moments.now) 0 cost }
-    requires nexts { HasNexts (length segments.now.moments.now)
+    requires nexts { LeadsAlong (length segments.now.moments.now)
         (IsUpToLast segments.now.lasts.items) (penalty_of segments.now.moments.now) 0 nexts.now }
     ensures least { IfOk result (λ walk. IsLeast (length segments.now.moments.now)
         (IsUpToLast segments.now.lasts.items) (penalty_of segments.now.moments.now)

@@ -8,14 +8,15 @@
 //! If the cost that is found is within the limit, it is the least: the best polygon costs no more, so none of its
 //! vertices counted as far.
 ghost use Rattle.std.specs.Prelude.{◌≡◌, ℕ, ◌+◌, ◌-◌, ◌<◌, ◌≤◌, ◌^◌, length, slice_index, IfOk, IfSome};
+ghost use Rattle.std.specs.Int.{IsPowerOfTwo};
 ghost use Rattle.pt_core.specs.ClosedWalk.{IsClosedWalk};
 ghost use Rattle.least_walk.specs.Inner.Suffix.{IsLeastCost};
 ghost use Rattle.polygon_optimal.specs.Inner.Lasts.{IsUpToLast};
 ghost use Rattle.polygon_optimal.specs.Polygon.{penalty_of};
 ghost use Rattle.least_walk.specs.LeastWalk.{IsLeast, walk_from, step_count, total_cost};
-ghost use Rattle.polygon_optimal.specs.Inner.Search.{AreEnoughSlots, AreWindowEnds};
+ghost use Rattle.polygon_optimal.specs.Inner.Search.{AreEnoughSlots, AreWindowEnds, slot_of};
 ghost use Rattle.polygon_optimal.specs.Inner.Bounds.{AreBounds, AreWindows};
-ghost use Rattle.polygon_optimal.specs.Inner.Within.{AreKeptWithin, HasNextsWithin};
+ghost use Rattle.polygon_optimal.specs.Inner.Within.{AreKeptWithin, HasNextsWithin, IsLeastRest, IsOnwardBy};
 
 use crate::bounds::{Bound, FAR, fill_bounds};
 use crate::limit::likely_limit;
@@ -97,7 +98,7 @@ pub(crate) fn fill_costs_within(
 {
     let size = segments.lasts.len();
     costs[slot(costs, size)] = 0;
-    let mut rest = u64::from(bounds[size].behind);
+    let mut rest = left_by(bounds[size], 0);
     for window in (0..farthest.len() - 1).rev() {
         rest = fill_window_within(segments, begins, farthest, bounds, window, limit, rest, costs, nexts, roots);
     }
@@ -117,16 +118,42 @@ fn fill_window_within(
     nexts: &mut [u32],
     roots: &mut Roots,
 ) -> u64
+    requires limit { limit < 2 ^ 56 }
+    requires rest { rest < 2 ^ 57 }
+    requires slots { AreEnoughSlots (length segments.now.moments.now) segments.now.lasts.items (length costs.old) }
+    requires next_places { length segments.now.moments.now + 1 ≤ length nexts.old }
+    requires bound_places { length segments.now.moments.now + 1 ≤ length bounds.now }
+    requires windows { AreWindows (length segments.now.moments.now) segments.now.lasts.items begins.now farthest.now }
+    requires bounds { AreBounds segments.now.lasts.items begins.now farthest.now
+        (penalty_of segments.now.moments.now) bounds.now }
+    requires window { window + 1 < length farthest.now }
+    requires least_rest { IsLeastRest (length segments.now.moments.now) (IsUpToLast segments.now.lasts.items)
+        (penalty_of segments.now.moments.now) bounds.now limit
+        (slice_index begins.now (window + 1)) (slice_index farthest.now (window + 1)) rest }
+    requires later { AreKeptWithin (length segments.now.moments.now) (IsUpToLast segments.now.lasts.items)
+        (penalty_of segments.now.moments.now) bounds.now limit (slice_index begins.now (window + 1)) costs.old }
+    requires later_nexts { HasNextsWithin (length segments.now.moments.now) (IsUpToLast segments.now.lasts.items)
+        (penalty_of segments.now.moments.now) bounds.now limit (slice_index begins.now (window + 1)) nexts.old }
+    ensures next_places { length nexts.new ≡ length nexts.old }
+    ensures rest { result < 2 ^ 57 }
+    ensures least_rest { IsLeastRest (length segments.now.moments.now) (IsUpToLast segments.now.lasts.items)
+        (penalty_of segments.now.moments.now) bounds.now limit
+        (slice_index begins.now window) (slice_index farthest.now window) result }
+    ensures costs { AreKeptWithin (length segments.now.moments.now) (IsUpToLast segments.now.lasts.items)
+        (penalty_of segments.now.moments.now) bounds.now limit (slice_index begins.now window) costs.new }
+    ensures nexts { HasNextsWithin (length segments.now.moments.now) (IsUpToLast segments.now.lasts.items)
+        (penalty_of segments.now.moments.now) bounds.now limit (slice_index begins.now window) nexts.new }
 {
     let mut least = FAR + (1 << 32);
     let mut nearest = nearest_from(segments, farthest[window], begins[window + 1]);
     loop {
         let first = nearest.from as usize;
+        let bound = bounds[first];
         let guess = nexts[first + 1];
-        let onward = onward_within(segments, nearest, bounds[first], limit, rest, guess, costs, roots);
+        let onward = onward_within(segments, nearest, bound, limit, rest, guess, costs, roots);
         costs[slot(costs, first)] = onward.cost;
         nexts[first] = onward.next;
-        least = least.min(u64::from(bounds[first].behind) + onward.cost);
+        least = least.min(left_by(bound, onward.cost));
         if nearest.from == begins[window] {
             return least;
         }
@@ -136,6 +163,7 @@ fn fill_window_within(
 
 /// The cheapest segment from a point into the next window, where a polygon through it may be within the limit; else one that
 /// costs too much.
+#[inline(always)]
 fn onward_within(
     segments: &Segments,
     nearest: Receding,
@@ -146,6 +174,20 @@ fn onward_within(
     costs: &[u64],
     roots: &mut Roots,
 ) -> Onward
+    requires nearest { nearest.moments.now ≡ segments.now.moments.now }
+    requires some { nearest.to ≤ slice_index segments.now.lasts.items nearest.from }
+    requires lap { nearest.to < length segments.now.moments.now
+        → slice_index segments.now.lasts.items nearest.from < length segments.now.moments.now }
+    requires slots { IsPowerOfTwo (length costs.now) }
+    requires small { (k : ℕ) → nearest.to ≤ k → k ≤ slice_index segments.now.lasts.items nearest.from
+        → slice_index costs.now (slot_of (length costs.now) k) < 2 ^ 56 }
+    requires floor { bound.floor < 2 ^ 56 }
+    requires limit { limit < 2 ^ 56 }
+    requires rest { rest < 2 ^ 57 }
+    ensures small { result.cost < 2 ^ 56 }
+    ensures onward { IsOnwardBy
+        (λ k. penalty_of segments.now.moments.now nearest.entry.from k + slice_index costs.now (slot_of (length costs.now) k))
+        nearest.entry.to (slice_index segments.now.lasts.items nearest.entry.from + 1) limit rest bound result }
 {
     let far = Onward {
         cost: FAR,
@@ -162,4 +204,14 @@ fn onward_within(
         };
     }
     onward
+}
+
+/// What is left from a vertex whose best way on costs so much, with what the second half of a segment to it adds.
+#[inline(always)]
+fn left_by(bound: Bound, cost: u64) -> u64
+    requires { cost < 2 ^ 56 }
+    ensures sum { result ≡ bound.behind + cost }
+    ensures small { result < 2 ^ 57 }
+{
+    u64::from(bound.behind) + cost
 }

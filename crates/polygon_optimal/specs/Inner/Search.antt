@@ -1,7 +1,8 @@
 -- What the search for a path's best polygon knows of its points.
 use Rattle.std.specs.Prelude.{◌≡◌, ℕ, zero, suc, ◌+◌, ◌-◌, ◌%◌, ◌<◌, ◌≤◌, List, length, replicate, set, slice_index}
 use Rattle.std.specs.Int.{IsPowerOfTwo}
-use Rattle.least_walk.specs.Inner.Suffix.{HasCosts}
+use Rattle.least_walk.specs.Inner.MarkedPlaces.{IsPlace}
+use Rattle.least_walk.specs.Inner.Suffix.{HasCosts, IsLeastCost, IsLeastNext}
 use Rattle.polygon_optimal.specs.declared.search.Onward.{Onward}
 
 -- from each later point, from `low` to the end, no more segments are left than from an earlier one
@@ -66,3 +67,14 @@ pub record AreKept (size : ℕ) (is_allowed : ℕ → ℕ → Type 0) (cost : �
   pub places : size < length whole
   pub are : HasCosts size is_allowed cost low whole
   pub kept : (k : ℕ) → low ≤ k → k ≤ size → k < low + length costs → slice_index costs (slot_of (length costs) k) ≡ slice_index whole k
+
+-- from point i to the end the list leads along the least way on: each vertex has a floor, which no segment of a least way
+-- raises by more than it costs; so the vertices of the least way from i stay within a limit, and where that is so for a
+-- vertex, the list has where the least way from there leads first
+pub record LeadsAlong (size : ℕ) (is_allowed : ℕ → ℕ → Type 0) (cost : ℕ → ℕ → ℕ) (i : ℕ) (nexts : List ℕ) : Type 0 where
+  pub floors : ℕ → ℕ
+  pub limit : ℕ
+  pub start : (c : ℕ) → IsLeastCost size is_allowed cost i c → floors i + c ≤ limit
+  pub rises : (k j : ℕ) → k < size → IsPlace size is_allowed k → IsLeastNext size is_allowed cost k j → floors j ≤ floors k + cost k j
+  pub each : (k c : ℕ) → k < size → IsPlace size is_allowed k → IsLeastCost size is_allowed cost k c → floors k + c ≤ limit
+      → IsLeastNext size is_allowed cost k (slice_index nexts k)

@@ -1,11 +1,12 @@
 -- What a search within a limit knows of a path's points.
-use Rattle.std.specs.Prelude.{◌≡◌, ℕ, ◌+◌, ◌<◌, ◌≤◌, List, length, slice_index}
+use Rattle.std.specs.Prelude.{◌≡◌, ℕ, ◌+◌, ◌<◌, ◌≤◌, ◌^◌, List, length, slice_index}
 use Rattle.least_walk.specs.Inner.MarkedPlaces.{IsPlace}
 use Rattle.least_walk.specs.Inner.Suffix.{HasCosts, IsLeastCost, IsLeastNext}
 use Rattle.polygon_optimal.specs.declared.bounds.Bound.{Bound}
+use Rattle.polygon_optimal.specs.declared.bounds.TheConstants.{FAR}
 use Rattle.polygon_optimal.specs.declared.search.Onward.{Onward}
-use Rattle.polygon_optimal.specs.Inner.Bounds.{bound_at, IsInWindow}
-use Rattle.polygon_optimal.specs.Inner.Search.{slot_of}
+use Rattle.polygon_optimal.specs.Inner.Bounds.{bound_at}
+use Rattle.polygon_optimal.specs.Inner.Search.{HasCheapest, slot_of}
 
 -- a polygon through point k, from which on it costs so much, may cost no more than the limit
 abbrev pub IsWithin : List Bound → ℕ → ℕ → ℕ → Type 0
@@ -19,6 +20,7 @@ pub record AreKeptWithin (size : ℕ) (is_allowed : ℕ → ℕ → Type 0) (cos
   pub enough : (k : ℕ) → low ≤ k → k ≤ size → k < low + length costs → slice_index whole k ≤ slice_index costs (slot_of (length costs) k)
   pub exact : (k : ℕ) → low ≤ k → k ≤ size → k < low + length costs → IsWithin bounds limit k (slice_index whole k)
       → slice_index costs (slot_of (length costs) k) ≡ slice_index whole k
+  pub small : (k : ℕ) → IsPlace size is_allowed k → low ≤ k → k ≤ size → k < low + length costs → slice_index costs (slot_of (length costs) k) < 2 ^ 56
 
 -- at each index that walks of fewest steps go through stands where the least way on leads first, where it is within the limit
 abbrev pub HasNextsWithin : ℕ → (ℕ → ℕ → Type 0) → (ℕ → ℕ → ℕ) → List Bound → ℕ → ℕ → List ℕ → Type 0
@@ -26,14 +28,16 @@ HasNextsWithin size is_allowed cost bounds limit low nexts = (k c : ℕ) → low
     → IsLeastCost size is_allowed cost k c → IsWithin bounds limit k c
     → IsLeastNext size is_allowed cost k (slice_index nexts k)
 
--- the onward segment of a search within a limit: it costs no less than the best way on, which costs `least` and begins
--- with the segment to `next`; and it is that one, where it is within the limit
-pub record IsOnwardWithin (within : Type 0) (least next : ℕ) (onward : Onward) : Type 0 where
-  pub enough : least ≤ onward.cost
-  pub exact : within → onward.cost ≡ least
-  pub leads : within → onward.next ≡ next
+-- how a search within a limit goes on from a point with this bound, where at least `rest` is left from where it comes:
+-- by the cheapest segment, where a polygon may so be within the limit; else its way counts as far
+pub data IsOnwardBy (cost_by : ℕ → ℕ) (begin end limit rest : ℕ) (bound : Bound) (onward : Onward) : Type 0 where
+  left_out : limit < bound.floor + bound.ahead + rest → onward.cost ≡ FAR → IsOnwardBy cost_by begin end limit rest bound onward
+  too_dear : (cheapest : Onward) → HasCheapest cost_by begin end cheapest → limit < bound.floor + cheapest.cost → onward.cost ≡ FAR
+      → IsOnwardBy cost_by begin end limit rest bound onward
+  kept : HasCheapest cost_by begin end onward → bound.floor + onward.cost ≤ limit → IsOnwardBy cost_by begin end limit rest bound onward
 
--- from each vertex of this window at least so much is left
-abbrev pub IsLeastRest : List ℕ → List ℕ → List Bound → ℕ → List ℕ → ℕ → Type 0
-IsLeastRest begins farthest bounds window costs rest = (k : ℕ) → IsInWindow begins farthest window k
-    → rest ≤ (bound_at bounds k).behind + slice_index costs (slot_of (length costs) k)
+-- from each of the points from `low` to `end` at least so much is left, with what the second half of a segment to it adds,
+-- where a polygon through it may be within the limit
+abbrev pub IsLeastRest : ℕ → (ℕ → ℕ → Type 0) → (ℕ → ℕ → ℕ) → List Bound → ℕ → ℕ → ℕ → ℕ → Type 0
+IsLeastRest size is_allowed cost bounds limit low end rest = (k c : ℕ) → low ≤ k → k ≤ end
+    → IsLeastCost size is_allowed cost k c → IsWithin bounds limit k c → rest ≤ (bound_at bounds k).behind + c

@@ -1,6 +1,7 @@
 use Rattle.std.proofs.Common.{◌-◌, length}
 use Rattle.least_walk.proofs.Written.{IsWritten}
 use Rattle.polygon_optimal.specs.Inner.Lasts.{IsUpToLast}
+use Rattle.polygon_optimal.specs.Inner.Search.{LeadsAlong}
 use Rattle.polygon_optimal.specs.Polygon.{penalty_of}
 use Rattle.polygon_optimal.proofs.search.walk_along.Given as goal
 
@@ -8,7 +9,11 @@ use Rattle.polygon_optimal.proofs.search.walk_along.Given as goal
 abbrev pub invariant-loop-from : goal.invariant-loop-from
 invariant-loop-from l =
     let points = l.segments.moments.now in
-    IsWritten (length points) (IsUpToLast l.segments.lasts.items) (penalty_of points) l.at.items l.from
+    let lasts = l.segments.lasts.items in
+    record {
+      written : IsWritten (length points) (IsUpToLast lasts) (penalty_of points) l.at.items l.from;
+      leads : LeadsAlong (length points) (IsUpToLast lasts) (penalty_of points) l.from l.nexts;
+    }
 
 abbrev pub decreases-loop-from : goal.decreases-loop-from
 decreases-loop-from l = l.size - l.from
