@@ -14,7 +14,6 @@ pub mod Scanning
 pub mod Slots
 pub mod Small
 pub mod Stepping
-pub mod Together
 pub mod Vertices
 pub mod Windowed
 mod Examples
