@@ -90,7 +90,7 @@ module _ (size : ℕ) (lasts begins farthest : List ℕ) (known : AreCounted siz
             let most = halves_most points (slice_index begins window) middle last halves of_them i j (bound_at between i).ahead (bound_at after j).behind
             inside.begin (omega (arith, inside.end)) (omega arith) (omega (arith, within)) start.ahead stop.behind in
             record {
-              floor = omega (arith, stop.floor, start.paid, most, floor_same);
+              floor = omega (arith, stop.floor, start.enough, most, floor_same);
               halves = omega (arith, most, ahead_same);
             });
       }

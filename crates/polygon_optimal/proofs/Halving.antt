@@ -5,11 +5,11 @@ use Rattle.std.specs.declared.option.Option.{Option}
 use Rattle.pt_core.specs.declared.point.Point.{Point}
 use Rattle.half_penalties.specs.HalfPenalties.{GoesOneWay, IsBoundBefore, IsBoundBehind}
 use Rattle.half_penalties.specs.declared.halves.Halves.{Halves}
+use Rattle.half_penalties.proofs.Together.{together}
 use Rattle.polygon_optimal.specs.Polygon.{penalty_of}
 use Rattle.polygon_optimal.specs.Inner.OnePenalty.{penalty_is}
 use Rattle.polygon_optimal.specs.Inner.Joining.{IsAheadOf, IsBehindOf, ReachesBack, ReachesOn}
 use Rattle.polygon_optimal.proofs.Windowed.{IsBetween}
-use Rattle.half_penalties.proofs.Together.{together}
 
 -- halves of segments from `first` on up to `last` over this middle were found
 pub record AreHalvesOf (points : List Point) (first at last : ℕ) (halves : Halves) : Type 0 where

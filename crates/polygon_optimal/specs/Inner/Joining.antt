@@ -54,10 +54,10 @@ pub record IsBehindOf (halves : Option Halves) (j behind : ℕ) : Type 0 where
   pub some : IfSome halves (λ h. IsBoundBehind h.moments.now h.slant h.middle j behind)
   pub none : IfNone halves (behind ≡ 0)
 
--- what is ahead of point k was written, so that a polygon through it has paid `least` in the middle
-pub record IsAheadFound (halves : Option Halves) (least k : ℕ) (before after : Bound) : Type 0 where
+-- what is ahead of point k was written, and a polygon through it has paid at least so much in the middle
+pub record IsAheadFound (halves : Option Halves) (paid k : ℕ) (before after : Bound) : Type 0 where
   pub ahead : IsAheadOf halves k after.ahead
-  pub paid : least ≤ after.floor + after.ahead
+  pub enough : paid ≤ after.floor + after.ahead
   pub floor : after.floor ≡ before.floor
   pub behind : after.behind ≡ before.behind
 
