@@ -2,10 +2,11 @@
 use Rattle.std.proofs.Common.{◌≡◌, ℕ, ◌+◌, ◌-◌, ◌<◌, ◌≤◌, List, length, subst, inl, inr, arith}
 use Rattle.std.proofs.lemmas.Bool.{cases_lt}
 use Rattle.std.specs.Prelude.{slice_index}
+use Rattle.least_walk.specs.Inner.Suffix.{IsFewestFrom}
 use Rattle.polygon_optimal.specs.Inner.Bounds.{AreWindows}
-use Rattle.polygon_optimal.specs.Inner.Lasts.{AreRising, LeadsOn}
-use Rattle.polygon_optimal.specs.Inner.Search.{counts_of}
-use Rattle.polygon_optimal.proofs.Counting.{counted, last_keeps, rises, some_left}
+use Rattle.polygon_optimal.specs.Inner.Lasts.{AreRising, IsUpToLast, LeadsOn}
+use Rattle.polygon_optimal.specs.Inner.Search.{AreWindowEnds, counts_of}
+use Rattle.polygon_optimal.proofs.Counting.{counted, counts_fewest, last_keeps, rises, some_left}
 use Rattle.polygon_optimal.proofs.Leasts.{IsBeforeWindow}
 use Rattle.polygon_optimal.proofs.Opening.{HasNextWindow, begins_at_start, far_below, vertex_here}
 use Rattle.polygon_optimal.proofs.Stepping.{windows}
@@ -94,3 +95,10 @@ last_at_end size lasts begins farthest leads rising are window last =
 pub first_at_start : (size : ℕ) (lasts begins farthest : List ℕ) → AreWindows size lasts begins farthest → slice_index begins 0 ≡ 0
 first_at_start size lasts begins farthest are =
     begins_at_start size (counts_of size lasts) (slice_index begins 0) (are.each 0 (omega (arith, are.count, are.ends.count)))
+
+-- there are as many segments as windows, without the first
+pub windows_fewest : (size : ℕ) (lasts farthest : List ℕ) → ((i : ℕ) → i < size → LeadsOn size i (slice_index lasts i)) → AreRising size lasts
+    → AreWindowEnds size lasts farthest → IsFewestFrom size (IsUpToLast lasts) 0 (length farthest - 1)
+windows_fewest size lasts farthest leads rising ends =
+    let same : slice_index (counts_of size lasts) 0 ≡ length farthest - 1 = omega (arith, ends.count) in
+    subst (IsFewestFrom size (IsUpToLast lasts) 0) same (counts_fewest size lasts leads rising 0 (omega arith) (omega arith))

@@ -80,24 +80,50 @@ pub(crate) fn least_by_windows(
     make_places(&mut room.nexts, places, 0u32)?;
     fill_farthest(segments, &mut room.farthest)?;
     let costs = &mut room.costs[..slots];
-    if BENDING <= slots {
-        let found = least_by_bounds(
-            alloc,
-            segments,
-            &room.farthest,
-            costs,
-            &mut room.nexts,
-            &mut room.begins,
-            &mut room.bounds,
-            roots,
-        )?;
-        if let Some(walk) = found {
-            return Ok(walk);
-        }
+    if slots < BENDING {
+        return least_by_all(alloc, segments, &room.farthest, costs, &mut room.nexts, roots);
     }
-    fill_costs(segments, &room.farthest, costs, &mut room.nexts, roots);
-    let count = (room.farthest.len() - 1) as u32;
-    walk_along(alloc, segments, count, costs[0], &room.nexts)
+    let found = least_by_bounds(
+        alloc,
+        segments,
+        &room.farthest,
+        costs,
+        &mut room.nexts,
+        &mut room.begins,
+        &mut room.bounds,
+        roots,
+    )?;
+    if let Some(walk) = found {
+        return Ok(walk);
+    }
+    least_by_all(alloc, segments, &room.farthest, costs, &mut room.nexts, roots)
+}
+
+/// The same, where all vertices are looked at, in lists that are lent.
+fn least_by_all(
+    alloc: Global,
+    segments: &Segments,
+    farthest: &[u32],
+    costs: &mut [u64],
+    nexts: &mut [u32],
+    roots: &mut Roots,
+) -> Result<Walk, NoMemory>
+    requires ends { AreWindowEnds (length segments.now.moments.now) segments.now.lasts.items farthest.now }
+    requires slots { AreEnoughSlots (length segments.now.moments.now) segments.now.lasts.items (length costs.old) }
+    requires next_places { length segments.now.moments.now + 1 ≤ length nexts.old }
+    ensures least { IfOk result (λ walk. IsLeast (length segments.now.moments.now)
+        (IsUpToLast segments.now.lasts.items) (penalty_of segments.now.moments.now)
+        (walk_from walk.at (length segments.now.moments.now))) }
+    ensures starts { IfOk result (λ walk. walk.count ≡ length walk.at) }
+    ensures count { IfOk result (λ walk. walk.count
+        ≡ step_count (walk_from walk.at (length segments.now.moments.now))) }
+    ensures cost { IfOk result (λ walk. walk.cost
+        ≡ total_cost (penalty_of segments.now.moments.now)
+        (walk_from walk.at (length segments.now.moments.now))) }
+{
+    fill_costs(segments, farthest, costs, nexts, roots);
+    let count = (farthest.len() - 1) as u32;
+    walk_along(alloc, segments, count, costs[0], nexts)
 }
 
 /// The walk that begins at 0 and goes on by `nexts`, where the whole of it has so many segments and costs so much.

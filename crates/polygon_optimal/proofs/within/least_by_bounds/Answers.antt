@@ -1,34 +1,27 @@
 use Rattle.std.proofs.Common.{◌≡◌, ℕ, ◌+◌, ◌-◌, ◌<◌, ◌≤◌, length, subst, sym, ◌∙◌, arith}
 use Rattle.std.specs.Prelude.{slice_index}
-use Rattle.least_walk.specs.Inner.Suffix.{IsFewestFrom}
 use Rattle.least_walk.proofs.Going.{fewest_below}
 use Rattle.least_walk.proofs.Lists.{whole}
 use Rattle.polygon_optimal.specs.Inner.Bounds.{AreBounds}
 use Rattle.polygon_optimal.specs.Inner.Lasts.{IsUpToLast}
-use Rattle.polygon_optimal.specs.Inner.Search.{counts_of}
 use Rattle.polygon_optimal.specs.Inner.Within.{HasNextsWithin}
 use Rattle.polygon_optimal.specs.Polygon.{penalty_of}
-use Rattle.polygon_optimal.proofs.Counting.{counts_fewest}
 use Rattle.polygon_optimal.proofs.Leading.{leads_within}
+use Rattle.polygon_optimal.proofs.Windowing.{windows_fewest}
 use Rattle.polygon_optimal.proofs.within.least_by_bounds.Goals as goal
 
--- there are as many segments as farthest points, without the start
+-- there are as many segments as windows, without the first
 pub overflow_cast-count : goal.overflow_cast-count
 overflow_cast-count c =
     let s = c.args.segments.now in
     let size = length s.moments.now in
-    let counts = counts_of size s.lasts.items in
-    let fewest = counts_fewest size s.lasts.items s.onwards s.rising 0 (omega arith) (omega arith) in
-    omega (arith, s.few, c.requires.ends.count, fewest_below size (IsUpToLast s.lasts.items) 0 (slice_index counts 0) fewest)
+    let fewest = windows_fewest size s.lasts.items c.args.farthest.now s.onwards s.rising c.requires.ends in
+    omega (arith, s.few, fewest_below size (IsUpToLast s.lasts.items) 0 (length c.args.farthest.now - 1) fewest)
 
 pub walk_along-requires-clause-count : goal.walk_along-requires-clause-count
 walk_along-requires-clause-count c =
     let s = c.args.segments.now in
-    let size = length s.moments.now in
-    let counts = counts_of size s.lasts.items in
-    let fewest = counts_fewest size s.lasts.items s.onwards s.rising 0 (omega arith) (omega arith) in
-    let same : slice_index counts 0 ≡ length c.args.farthest.now - 1 = omega (arith, c.requires.ends.count) in
-    subst (IsFewestFrom size (IsUpToLast s.lasts.items) 0) same fewest
+    windows_fewest (length s.moments.now) s.lasts.items c.args.farthest.now s.onwards s.rising c.requires.ends
 
 -- the polygon that is found is within the limit
 pub walk_along-requires-clause-nexts : goal.walk_along-requires-clause-nexts
