@@ -25,31 +25,31 @@ some_within cost_by begin (suc d) =
     let end : ℕ = begin + suc d in
     elim (cases_lt (cost_by end) so_far.cost) [
       | inl lower ↦ (
-          record { cost = cost_by end; next = end },
-          record {
-            above = omega arith;
-            below = omega arith;
-            cost = omega arith;
-            cheapest = λ k above below. elim (cases_eq k end) [
-              | inl same ↦ omega (arith, ap cost_by same)
-              | inr other ↦ omega (arith, is.cheapest k above (omega arith))
-            ];
-            first = λ k above below. omega (arith, is.cheapest k above below);
-          },
-        )
+        record { cost = cost_by end; next = end },
+        record {
+          above = omega arith;
+          below = omega arith;
+          cost = omega arith;
+          cheapest = λ k above below. elim (cases_eq k end) [
+            | inl same ↦ omega (arith, ap cost_by same)
+            | inr other ↦ omega (arith, is.cheapest k above (omega arith))
+          ];
+          first = λ k above below. omega (arith, is.cheapest k above below);
+        },
+      )
       | inr dear ↦ (
-          so_far,
-          record {
-            above = is.above;
-            below = omega (arith, is.below);
-            cost = is.cost;
-            cheapest = λ k above below. elim (cases_eq k end) [
-              | inl same ↦ omega (arith, ap cost_by same)
-              | inr other ↦ is.cheapest k above (omega arith)
-            ];
-            first = is.first;
-          },
-        )
+        so_far,
+        record {
+          above = is.above;
+          below = omega (arith, is.below);
+          cost = is.cost;
+          cheapest = λ k above below. elim (cases_eq k end) [
+            | inl same ↦ omega (arith, ap cost_by same)
+            | inr other ↦ is.cheapest k above (omega arith)
+          ];
+          first = is.first;
+        },
+      )
     ]
 
 pub some_cheapest : (cost_by : ℕ → ℕ) (begin end : ℕ) → begin < end → (onward : Onward) × HasCheapest cost_by begin end onward

@@ -86,8 +86,8 @@ module _ (size : ℕ) (lasts counts : List ℕ) (known : AreCounted size lasts c
               (λ k j. (c : ℕ) → k < size → IsPlace size (IsUpToLast lasts) k → IsLeastCost size (IsUpToLast lasts) cost k c → IsWithin bounds limit k c
               → IsLeastNext size (IsUpToLast lasts) cost k j) nexts i onward.next room
               (λ c below place costs inside. (
-                  let same = least_cost_is_one size (IsUpToLast lasts) cost i c first.cost costs least in
-                  subst (IsLeastNext size (IsUpToLast lasts) cost i) (sym (found.leads (omega (arith, same)))) next))
+              let same = least_cost_is_one size (IsUpToLast lasts) cost i c first.cost costs least in
+              subst (IsLeastNext size (IsUpToLast lasts) cost i) (sym (found.leads (omega (arith, same)))) next))
               (λ k above c. written k c (omega arith)) k above c below place costs inside;
           exact = λ c costs inside. (
               let same = least_cost_is_one size (IsUpToLast lasts) cost i c first.cost costs least in

@@ -81,7 +81,14 @@ pub(crate) fn least_by_windows(
     fill_farthest(segments, &mut room.farthest)?;
     let costs = &mut room.costs[..slots];
     if slots < BENDING {
-        return least_by_all(alloc, segments, &room.farthest, costs, &mut room.nexts, roots);
+        return least_by_all(
+            alloc,
+            segments,
+            &room.farthest,
+            costs,
+            &mut room.nexts,
+            roots,
+        );
     }
     let found = least_by_bounds(
         alloc,
@@ -96,7 +103,14 @@ pub(crate) fn least_by_windows(
     if let Some(walk) = found {
         return Ok(walk);
     }
-    least_by_all(alloc, segments, &room.farthest, costs, &mut room.nexts, roots)
+    least_by_all(
+        alloc,
+        segments,
+        &room.farthest,
+        costs,
+        &mut room.nexts,
+        roots,
+    )
 }
 
 /// The same, where all vertices are looked at, in lists that are lent.

@@ -63,7 +63,9 @@ pub(crate) fn least_by_bounds(
     make_places(bounds, segments.lasts.len() + 1, Bound::none())?;
     fill_bounds(segments, begins, farthest, bounds, roots);
     let limit = likely_limit(segments, begins, farthest, bounds).min(FAR);
-    fill_costs_within(segments, begins, farthest, bounds, limit, costs, nexts, roots);
+    fill_costs_within(
+        segments, begins, farthest, bounds, limit, costs, nexts, roots,
+    );
     if limit < costs[0] {
         return Ok(None);
     }
@@ -100,7 +102,9 @@ pub(crate) fn fill_costs_within(
     costs[slot(costs, size)] = 0;
     let mut rest = left_by(bounds[size], 0);
     for window in (0..farthest.len() - 1).rev() {
-        rest = fill_window_within(segments, begins, farthest, bounds, window, limit, rest, costs, nexts, roots);
+        rest = fill_window_within(
+            segments, begins, farthest, bounds, window, limit, rest, costs, nexts, roots,
+        );
     }
 }
 

@@ -68,9 +68,9 @@ pub record AreKept (size : ℕ) (is_allowed : ℕ → ℕ → Type 0) (cost : �
   pub are : HasCosts size is_allowed cost low whole
   pub kept : (k : ℕ) → low ≤ k → k ≤ size → k < low + length costs → slice_index costs (slot_of (length costs) k) ≡ slice_index whole k
 
--- from point i to the end the list leads along the least way on: each vertex has a floor, which no segment of a least way
--- raises by more than it costs; so the vertices of the least way from i stay within a limit, and where that is so for a
--- vertex, the list has where the least way from there leads first
+-- from point i on the list leads along the least way. Vertices have floors, and no segment of a least way raises the floor
+-- by more than it costs. So if floor and cost at i are within a limit, they are so along the whole way; and at each vertex
+-- where they are, the list has where the least way leads first
 pub record LeadsAlong (size : ℕ) (is_allowed : ℕ → ℕ → Type 0) (cost : ℕ → ℕ → ℕ) (i : ℕ) (nexts : List ℕ) : Type 0 where
   pub floors : ℕ → ℕ
   pub limit : ℕ

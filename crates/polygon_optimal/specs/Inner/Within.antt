@@ -28,16 +28,16 @@ HasNextsWithin size is_allowed cost bounds limit low nexts = (k c : ℕ) → low
     → IsLeastCost size is_allowed cost k c → IsWithin bounds limit k c
     → IsLeastNext size is_allowed cost k (slice_index nexts k)
 
--- how a search within a limit goes on from a point with this bound, where at least `rest` is left from where it comes:
--- by the cheapest segment, where a polygon may so be within the limit; else its way counts as far
+-- how a search within a limit goes on from a point with this bound, where at least `rest` is left beyond the segment: by the
+-- cheapest one, if floor and cost are within the limit; else its way counts as far
 pub data IsOnwardBy (cost_by : ℕ → ℕ) (begin end limit rest : ℕ) (bound : Bound) (onward : Onward) : Type 0 where
   left_out : limit < bound.floor + bound.ahead + rest → onward.cost ≡ FAR → IsOnwardBy cost_by begin end limit rest bound onward
   too_dear : (cheapest : Onward) → HasCheapest cost_by begin end cheapest → limit < bound.floor + cheapest.cost → onward.cost ≡ FAR
       → IsOnwardBy cost_by begin end limit rest bound onward
   kept : HasCheapest cost_by begin end onward → bound.floor + onward.cost ≤ limit → IsOnwardBy cost_by begin end limit rest bound onward
 
--- from each of the points from `low` to `end` at least so much is left, with what the second half of a segment to it adds,
--- where a polygon through it may be within the limit
+-- so much is left at least from each of the points from `low` to `end` that a polygon within the limit may go through: what
+-- the second half of a segment to it adds, and what the best way on costs
 abbrev pub IsLeastRest : ℕ → (ℕ → ℕ → Type 0) → (ℕ → ℕ → ℕ) → List Bound → ℕ → ℕ → ℕ → ℕ → Type 0
 IsLeastRest size is_allowed cost bounds limit low end rest = (k c : ℕ) → low ≤ k → k ≤ end
     → IsLeastCost size is_allowed cost k c → IsWithin bounds limit k c → rest ≤ (bound_at bounds k).behind + c

@@ -1,4 +1,4 @@
-use Rattle.std.proofs.Common.{◌≡◌, ℕ, ◌-◌, ◌<◌, length, arith}
+use Rattle.std.proofs.Common.{◌-◌, length, arith}
 use Rattle.std.specs.Prelude.{slice_index}
 use Rattle.least_walk.proofs.Going.{fewest_below}
 use Rattle.polygon_optimal.specs.Inner.Lasts.{IsUpToLast}

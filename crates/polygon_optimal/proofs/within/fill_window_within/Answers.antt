@@ -1,4 +1,4 @@
-use Rattle.std.proofs.Common.{◌≡◌, ℕ, ◌+◌, ◌-◌, ◌<◌, ◌≤◌, length, set, get_or, inl, inr, ap, subst, sym, ◌∙◌, arith}
+use Rattle.std.proofs.Common.{◌≡◌, ℕ, ◌+◌, ◌-◌, length, set, inl, inr, ap, subst, sym, ◌∙◌, arith}
 use Rattle.std.proofs.lemmas.Bool.{cases_lt}
 use Rattle.std.specs.Prelude.{slice_index}
 use Rattle.pt_core.specs.ClosedWalk.{point_at}
@@ -70,7 +70,7 @@ onward_within-onward-requires-clause-some c =
       arith,
       so_far.to,
       all_reach (length s.moments.now) s.lasts.items c.args.begins.now c.args.farthest.now s.onwards s.rising c.requires.windows c.args.window c.requires.window
-      c.loop-nearest.nearest.from so_far.above so_far.near,
+          c.loop-nearest.nearest.from so_far.above so_far.near,
     )
 
 pub onward_within-onward-requires-clause-lap : goal.onward_within-onward-requires-clause-lap
