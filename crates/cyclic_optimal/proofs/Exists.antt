@@ -16,7 +16,7 @@ use Rattle.least_walk.proofs.Before.{slice_cmp-cons}
 use Rattle.least_walk.proofs.Going.{goes_below, length-steps_from}
 use Rattle.least_walk.proofs.Exists.{least_found}
 use Rattle.least_walk.proofs.Walks.{goes_from_walk, walk_from_goes}
-use Rattle.polygon_optimal.specs.Polygon.{penalty_of}
+use Rattle.polygon_search.specs.Polygon.{penalty_of}
 use Rattle.cyclic_optimal.specs.Cyclic.{IsCyclicPolygon, IsLeastCyclic, once_round, round_penalty}
 use Rattle.cyclic_optimal.proofs.Lists.{cons_above, lists_moved, list_order}
 use Rattle.cyclic_optimal.proofs.Ways.{on_by, goes_moved, goes_back, cost_moved}

@@ -10,7 +10,7 @@ use Rattle.least_walk.specs.LeastWalk.{IsBefore, step_count, total_cost}
 use Rattle.least_walk.specs.LeastWalk.IsBefore.{by_steps, by_cost, by_list}
 use Rattle.least_walk.proofs.Before.{slice_cmp-cons}
 use Rattle.least_walk.proofs.Going.{length-steps_from}
-use Rattle.polygon_optimal.specs.Polygon.{penalty_of}
+use Rattle.polygon_search.specs.Polygon.{penalty_of}
 use Rattle.cyclic_optimal.specs.Cyclic.{IsCyclicPolygon, IsLeastCyclic, once_round, round_penalty}
 use Rattle.cyclic_optimal.specs.Inner.Fronts.{IsBestAmong, worth_of}
 use Rattle.cyclic_optimal.specs.declared.round.Best.{Best}

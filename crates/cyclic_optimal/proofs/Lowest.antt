@@ -10,7 +10,7 @@ use Rattle.least_walk.specs.LeastWalk.{total_cost}
 use Rattle.least_walk.specs.Inner.Suffix.{WalksOn}
 use Rattle.least_walk.proofs.Before.{slice_cmp-cons}
 use Rattle.least_walk.proofs.Going.{goes_below, total_cost-cons}
-use Rattle.polygon_optimal.specs.Polygon.{penalty_of}
+use Rattle.polygon_search.specs.Polygon.{penalty_of}
 use Rattle.cyclic_optimal.specs.Inner.Fronts.{AreFrontsOf, AreTops, IsFirstOnward, IsFirstWay, IsFrontAt, IsLeastBy, IsListOf, worth_of}
 use Rattle.cyclic_optimal.specs.declared.fronts.Front.{Front}
 use Rattle.cyclic_optimal.specs.declared.fronts.Onward.{Onward}

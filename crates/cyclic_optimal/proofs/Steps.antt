@@ -7,7 +7,7 @@ use Rattle.std.specs.Prelude.{slice_index}
 use Rattle.pt_core.specs.declared.point.Point.{Point}
 use Rattle.straight_paths.specs.Straight.{IsPossible}
 use Rattle.straight_paths.proofs.Far.{shorter_possible}
-use Rattle.polygon_optimal.proofs.Rising.{later_possible}
+use Rattle.polygon_search.proofs.Rising.{later_possible}
 use Rattle.least_walk.specs.Inner.Suffix.{IsFewestFrom, WalksOn}
 use Rattle.least_walk.proofs.Going.{goes_below}
 use Rattle.cyclic_optimal.specs.Inner.Fronts.{AreTops, IsLongest}

@@ -9,7 +9,7 @@ use Rattle.straight_paths.specs.Straight.{IsPossible}
 use Rattle.least_walk.specs.LeastWalk.{total_cost}
 use Rattle.least_walk.specs.Inner.Suffix.{WalksOn}
 use Rattle.least_walk.proofs.Going.{goes_below}
-use Rattle.polygon_optimal.specs.Polygon.{penalty_of}
+use Rattle.polygon_search.specs.Polygon.{penalty_of}
 use Rattle.cyclic_optimal.specs.Cyclic.{IsCyclicPolygon, round_penalty}
 use Rattle.cyclic_optimal.specs.Inner.Fronts.{IsListOf, worth_of}
 use Rattle.cyclic_optimal.proofs.Ways.{on_by, goes_to_last, goes_moved, goes_anew, cost_anew}

@@ -12,8 +12,8 @@ use Rattle.least_walk.specs.LeastWalk.{total_cost}
 use Rattle.least_walk.specs.Inner.Suffix.{WalksOn}
 use Rattle.least_walk.proofs.Going.{goes_below, total_cost-cons}
 use Rattle.prefix_moments.specs.Sums.{IsPenalty}
-use Rattle.polygon_optimal.specs.Polygon.{penalty_of}
-use Rattle.polygon_optimal.specs.Inner.OnePenalty.{penalty_is, penalty_most}
+use Rattle.polygon_search.specs.Polygon.{penalty_of}
+use Rattle.polygon_search.specs.Inner.OnePenalty.{penalty_is, penalty_most}
 use Rattle.cyclic_optimal.specs.Inner.Fronts.{IsInLap, IsLongest, past, worth_of}
 use Rattle.cyclic_optimal.proofs.Rounds.{may_lap, may_back, pen_lap}
 

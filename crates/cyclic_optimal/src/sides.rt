@@ -4,7 +4,7 @@ ghost use Rattle.pt_core.specs.ClosedWalk.{IsClosedWalk};
 ghost use Rattle.pt_core.specs.OnPage.{AreOnPage};
 ghost use Rattle.straight_paths.specs.Straight.{IsPossible};
 ghost use Rattle.prefix_moments.specs.Sums.{spread_of};
-ghost use Rattle.polygon_optimal.specs.Polygon.{penalty_of};
+ghost use Rattle.polygon_search.specs.Polygon.{penalty_of};
 ghost use Rattle.cyclic_optimal.specs.Inner.Fronts.{IsInLap, IsLongest, past, worth_of};
 
 use prefix_moments::{Growing, Moments};

@@ -2,7 +2,7 @@
 use Rattle.std.proofs.Common.{◌≡◌, ℕ, List, [], ◌++◌, length, sym, ◌∙◌, subst, codes, flat_map, arith}
 use Rattle.std.proofs.lemmas.List.{append-nil}
 use Rattle.std.specs.List.{All}
-use Rattle.polygon_optimal.specs.Polygon.{IsSegment, IsBestPolygon, penalty_of}
+use Rattle.polygon_search.specs.Polygon.{IsSegment, IsBestPolygon, penalty_of}
 use Rattle.outline_check.specs.ProofsText.{Certified, certified_text}
 use Rattle.outline_check.specs.Texts.{AreInRanges, IsProofs}
 use Rattle.outline_check.specs.Verdicts.{IsVerdict}

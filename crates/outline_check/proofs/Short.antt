@@ -3,9 +3,9 @@ use Rattle.std.proofs.Common.{◌≡◌, ℕ, zero, suc, ◌+◌, ◌*◌, ◌<�
 use Rattle.std.proofs.lemmas.Bool.{cases_eq}
 use Rattle.pt_core.specs.ClosedWalk.{IsClosedWalk}
 use Rattle.pt_core.specs.declared.point.Point.{Point}
-use Rattle.polygon_optimal.specs.Inner.OnePenalty.{penalty_is}
-use Rattle.polygon_optimal.specs.Polygon.{penalty_of}
-use Rattle.polygon_optimal.proofs.Small.{possible_most}
+use Rattle.polygon_search.specs.Inner.OnePenalty.{penalty_is}
+use Rattle.polygon_search.specs.Polygon.{penalty_of}
+use Rattle.polygon_search.proofs.Small.{possible_most}
 use Rattle.outline_check.specs.declared.label.Label.{Label}
 use Rattle.outline_check.specs.Certificate.{AreRightLabels}
 use Rattle.outline_check.specs.Labels.{label_at}

@@ -9,8 +9,8 @@ use Rattle.pt_core.specs.declared.path.Path.{Path}
 use Rattle.pt_core.specs.declared.point.Point.{Point}
 use Rattle.pt_core.specs.declared.polygon.Polygon.{Polygon}
 use Rattle.pt_core.specs.declared.trace.Trace.{Trace}
-use Rattle.polygon_optimal.specs.Polygon.{IsBestPolygon}
-use Rattle.polygon_optimal.proofs.Vertices.{some_vertices, vertices_below}
+use Rattle.polygon_search.specs.Polygon.{IsBestPolygon}
+use Rattle.polygon_search.proofs.Vertices.{some_vertices, vertices_below}
 use Rattle.outline_check.specs.declared.label.Label.{Label}
 use Rattle.outline_check.specs.declared.verdict.Verdict.TheVariants.{Right}
 use Rattle.outline_check.specs.Certificate.{AreRightLabels}

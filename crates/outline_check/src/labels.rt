@@ -2,8 +2,8 @@
 ghost use Rattle.std.specs.Prelude.{◌≡◌, ℕ, ◌+◌, length, IfOk};
 ghost use Rattle.pt_core.specs.ClosedWalk.{IsClosedWalk};
 ghost use Rattle.pt_core.specs.OnPage.{AreOnPage};
-ghost use Rattle.polygon_optimal.specs.Inner.Lasts.{IsUpToLast};
-ghost use Rattle.polygon_optimal.specs.Polygon.{penalty_of};
+ghost use Rattle.polygon_search.specs.Inner.Lasts.{IsUpToLast};
+ghost use Rattle.polygon_search.specs.Polygon.{penalty_of};
 ghost use Rattle.outline_check.specs.Certificate.{AreRightLabels};
 ghost use Rattle.outline_check.specs.Labels.{no_label, label_at};
 ghost use Rattle.outline_check.specs.Inner.Known.{AreRightDownTo};

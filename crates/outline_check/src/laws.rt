@@ -5,7 +5,7 @@ ghost use Rattle.pt_core.specs.ClosedWalk.{IsClosedWalk};
 ghost use Rattle.pt_core.specs.declared.limits.TheConstants.{LONGEST_SIDE};
 ghost use Rattle.pt_core.specs.declared.point.Point.{Point};
 ghost use Rattle.pt_core.specs.declared.trace.Trace.{Trace};
-ghost use Rattle.polygon_optimal.specs.Polygon.{IsBestPolygon, total_penalty};
+ghost use Rattle.polygon_search.specs.Polygon.{IsBestPolygon, total_penalty};
 ghost use Rattle.outline_check.specs.declared.label.Label.{Label};
 ghost use Rattle.outline_check.specs.Certificate.{AreRightLabels, IsCertificate};
 ghost use Rattle.outline_check.specs.Labels.{label_at};

@@ -8,8 +8,8 @@
 //!     from . . . . [begin . . . last]    In the window one segment fewer is left than from here.
 //! ```
 ghost use Rattle.std.specs.Prelude.{◌≡◌, ℕ, ◌+◌, ◌*◌, ◌^◌, ◌<◌, ◌≤◌, length, slice_index};
-ghost use Rattle.polygon_optimal.specs.Inner.Lasts.{AreRising, IsUpToLast, LeadsOn};
-ghost use Rattle.polygon_optimal.specs.Polygon.{penalty_of};
+ghost use Rattle.polygon_search.specs.Inner.Lasts.{AreRising, IsUpToLast, LeadsOn};
+ghost use Rattle.polygon_search.specs.Polygon.{penalty_of};
 ghost use Rattle.outline_check.specs.Labels.{IsRight, label_at, label_by, no_label};
 ghost use Rattle.outline_check.specs.Inner.Known.{AreRightDownTo, IsWindowBegin};
 ghost use Rattle.outline_check.specs.Inner.LabelPoints.{IsCheapestBefore, onward_by};

@@ -6,7 +6,7 @@ use Rattle.outline_check.specs.Texts.{IsProofs}
 use Rattle.outline_check.specs.Verdicts.{IsVerdict}
 use Rattle.outline_check.specs.declared.verdict.Verdict.TheVariants.{Right}
 use Rattle.outline_check.proofs.OneReading.{best_polygons}
-use Rattle.polygon_optimal.specs.Polygon.{IsBestPolygon}
+use Rattle.polygon_search.specs.Polygon.{IsBestPolygon}
 use Rattle.run_output.specs.Told.{Sinks, Source}
 use Rattle.run_output.specs.Status.{code_of}
 use Rattle.small_program.specs.Input.{TellsInput}

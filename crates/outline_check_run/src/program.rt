@@ -5,7 +5,7 @@ ghost use Rattle.outline_check.specs.Texts.{IsProofs};
 ghost use Rattle.outline_check.specs.Verdicts.{IsVerdict};
 ghost use Rattle.outline_check.specs.declared.verdict.Verdict.TheVariants.{Right};
 ghost use Rattle.outline_check_run.specs.{FindsRight, IsCheckReply};
-ghost use Rattle.polygon_optimal.specs.Polygon.{IsBestPolygon};
+ghost use Rattle.polygon_search.specs.Polygon.{IsBestPolygon};
 ghost use Rattle.run_output.specs.Told.{sinks_of, source_of};
 ghost use Rattle.run_output.specs.Status.{code_of};
 ghost use Rattle.small_program.specs.Input.{TellsInput};

@@ -10,8 +10,8 @@ use Rattle.pt_core.specs.declared.point.Point.{Point}
 use Rattle.pt_core.proofs.Sizes.{product_most}
 use Rattle.path_cones.proofs.Cyclic.{lap_on}
 use Rattle.straight_paths.specs.Straight.{IsPossible}
-use Rattle.polygon_optimal.specs.Polygon.{IsSegment}
-use Rattle.polygon_optimal.proofs.Vertices.{vertices_below}
+use Rattle.polygon_search.specs.Polygon.{IsSegment}
+use Rattle.polygon_search.proofs.Vertices.{vertices_below}
 use Rattle.outline_distance.specs.Polygons.{IsAnyPolygon}
 use Rattle.vertex_adjust.specs.Vertex.{AreVertices, segment_end_of}
 use Rattle.corner_smooth.specs.Corner.{middle_of}

@@ -17,10 +17,10 @@ use Rattle.pt_base.specs.PointsText.{point_text}
 use Rattle.pt_base.specs.PolygonsText.{index_text, polygon_text, polygons_text}
 use Rattle.least_walk.specs.LeastWalk.{Step, steps_from}
 use Rattle.straight_paths.specs.Straight.{IsPossible}
-use Rattle.polygon_optimal.specs.Polygon.{penalty_of}
-use Rattle.polygon_optimal.specs.Inner.OnePenalty.{penalty_is}
-use Rattle.polygon_optimal.proofs.Small.{possible_most, total_most}
-use Rattle.polygon_optimal.proofs.Vertices.{vertices_below}
+use Rattle.polygon_search.specs.Polygon.{penalty_of}
+use Rattle.polygon_search.specs.Inner.OnePenalty.{penalty_is}
+use Rattle.polygon_search.proofs.Small.{possible_most, total_most}
+use Rattle.polygon_search.proofs.Vertices.{vertices_below}
 use Rattle.cyclic_optimal.specs.Cyclic.{IsCyclicPolygon, round_penalty}
 use Rattle.outline_check.specs.Certificate.{AreRightLabels}
 use Rattle.outline_check.specs.Labels.{label_at, no_label}

@@ -13,7 +13,7 @@ use Rattle.pt_core.specs.declared.polygon.Polygon.{Polygon}
 use Rattle.pt_core.specs.declared.settings.Settings.{Settings}
 use Rattle.least_walk.specs.LeastWalk.{IsBefore, Step, steps_of, total_cost}
 use Rattle.straight_paths.specs.Straight.{IsPossible}
-use Rattle.polygon_optimal.specs.Polygon.{penalty_of}
+use Rattle.polygon_search.specs.Polygon.{penalty_of}
 use Rattle.cyclic_optimal.specs.Cyclic.{IsCyclicPolygon, IsLeastCyclic, once_round, round_penalty}
 use Rattle.corner_smooth.specs.Corner.{corner_piece, pieces_of}
 use Rattle.curve_join.specs.Choice.{IsBestJoin}

@@ -9,8 +9,8 @@ use Rattle.pt_core.specs.ClosedWalk.{point_at}
 use Rattle.pt_core.specs.declared.point.Point.{Point}
 use Rattle.prefix_moments.specs.Sums.{rightward_of, above_of, spread_of, sum_over}
 use Rattle.straight_paths.specs.Straight.{IsPossible, IsStraight, IsNear, Takes, TakesAllFour, path_from, vector_of}
-use Rattle.polygon_optimal.proofs.Reaching.{walk_where_more}
-use Rattle.polygon_optimal.specs.Polygon.{IsSegment, IsBestPolygon, penalty_of, total_penalty}
+use Rattle.polygon_search.proofs.Reaching.{walk_where_more}
+use Rattle.polygon_search.specs.Polygon.{IsSegment, IsBestPolygon, penalty_of, total_penalty}
 use Rattle.path_copies.specs.Copy.{IsCopy}
 
 -- a path is a copy of its copies

@@ -2,7 +2,7 @@
 ghost use Rattle.std.specs.Prelude.{◌≡◌, ◌<◌, IfOk, IfSome, length};
 ghost use Rattle.pt_core.specs.ClosedWalk.{IsClosedWalk};
 ghost use Rattle.pt_core.specs.OnPage.{AreOnPage};
-ghost use Rattle.polygon_optimal.specs.Polygon.{IsBestPolygon, total_penalty};
+ghost use Rattle.polygon_search.specs.Polygon.{IsBestPolygon, total_penalty};
 
 use crate::key::Key;
 use crate::known::KnownPaths;

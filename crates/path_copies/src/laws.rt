@@ -1,7 +1,7 @@
 //! What follows from the definitions alone.
 ghost use Rattle.std.specs.Prelude.{◌≡◌, ℕ, List};
 ghost use Rattle.path_copies.specs.Copy.{IsCopy};
-ghost use Rattle.polygon_optimal.specs.Polygon.{IsBestPolygon, total_penalty};
+ghost use Rattle.polygon_search.specs.Polygon.{IsBestPolygon, total_penalty};
 ghost use Rattle.pt_core.specs.declared.point.Point.{Point};
 
 /// A path's best polygon is that of each of its copies, and a polygon's penalties are together the same in both.

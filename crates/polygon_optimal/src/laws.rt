@@ -3,7 +3,7 @@ ghost use Rattle.std.specs.Prelude.{◌≡◌, ℕ, ◌-◌, ◌*◌, ◌<◌, �
 ghost use Rattle.pt_core.specs.ClosedWalk.{IsClosedWalk};
 ghost use Rattle.pt_core.specs.declared.point.Point.{Point};
 ghost use Rattle.prefix_moments.specs.Sums.{IsPenalty};
-ghost use Rattle.polygon_optimal.specs.Polygon.{IsPolygon, IsBestPolygon, penalty_of, total_penalty};
+ghost use Rattle.polygon_search.specs.Polygon.{IsPolygon, IsBestPolygon, penalty_of, total_penalty};
 ghost use Rattle.straight_paths.specs.Straight.{IsPossible};
 
 /// A path has at most one best polygon.

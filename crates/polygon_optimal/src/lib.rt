@@ -38,17 +38,10 @@
 //! ```
 #![tactic(auto)]
 
-mod bounds;
 pub mod laws;
-mod limit;
 pub mod memo;
 pub mod optimal;
-mod room;
-mod search;
-pub mod segments;
-mod windows;
-mod within;
 
 pub use memo::PolygonMemo;
 pub use optimal::{polygon, polygon_by, polygon_with_moments};
-pub use segments::lasts;
+pub use polygon_search::lasts;

@@ -1,5 +1,5 @@
 //! What was found of other walks.
-use crate::room::SearchRoom;
+use polygon_search::SearchRoom;
 use prefix_moments::{Moments, MomentsRoom, Roots};
 use pt_core::NoMemory;
 use std::alloc::Global;

@@ -2,13 +2,11 @@
 ghost use Rattle.std.specs.Prelude.{◌≡◌, IfOk};
 ghost use Rattle.pt_core.specs.ClosedWalk.{IsClosedWalk};
 ghost use Rattle.pt_core.specs.OnPage.{AreOnPage};
-ghost use Rattle.polygon_optimal.specs.Inner.Lasts.{HasLasts};
-ghost use Rattle.polygon_optimal.specs.Polygon.{IsBestPolygon, total_penalty};
+ghost use Rattle.polygon_search.specs.Inner.Lasts.{HasLasts};
+ghost use Rattle.polygon_search.specs.Polygon.{IsBestPolygon, total_penalty};
 
 use crate::memo::PolygonMemo;
-use crate::room::SearchRoom;
-use crate::search::least_by_windows;
-use crate::segments::{Segments, lasts};
+use polygon_search::{SearchRoom, Segments, lasts, least_by_windows};
 use prefix_moments::{Moments, Roots};
 use pt_core::{NoMemory, Point, Polygon};
 use std::alloc::Global;

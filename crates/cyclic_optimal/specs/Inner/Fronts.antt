@@ -7,7 +7,7 @@ use Rattle.pt_core.specs.declared.point.Point.{Point}
 use Rattle.straight_paths.specs.Straight.{IsPossible}
 use Rattle.least_walk.specs.LeastWalk.{total_cost}
 use Rattle.least_walk.specs.Inner.Suffix.{IsFewestFrom, WalksOn}
-use Rattle.polygon_optimal.specs.Polygon.{penalty_of}
+use Rattle.polygon_search.specs.Polygon.{penalty_of}
 use Rattle.cyclic_optimal.specs.declared.fronts.Front.{Front}
 use Rattle.cyclic_optimal.specs.declared.fronts.Onward.{Onward}
 use Rattle.cyclic_optimal.specs.declared.round.Best.{Best}

@@ -1,7 +1,7 @@
 //! What follows of polygons.
 ghost use Rattle.std.specs.Prelude.{ℕ, ◌<◌, List, length};
 ghost use Rattle.pt_core.specs.declared.point.Point.{Point};
-ghost use Rattle.polygon_optimal.specs.Polygon.{IsPolygon};
+ghost use Rattle.polygon_search.specs.Polygon.{IsPolygon};
 ghost use Rattle.cyclic_optimal.specs.Cyclic.{IsCyclicPolygon};
 ghost use Rattle.vertex_adjust.specs.Vertex.{IsPolygonAlong};
 

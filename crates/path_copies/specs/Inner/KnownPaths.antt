@@ -1,6 +1,6 @@
 -- Paths that are known with their polygons.
 use Rattle.std.specs.Prelude.{◌≡◌}
-use Rattle.polygon_optimal.specs.Polygon.{IsBestPolygon, total_penalty}
+use Rattle.polygon_search.specs.Polygon.{IsBestPolygon, total_penalty}
 use Rattle.pt_core.specs.declared.polygon.Polygon.{Polygon}
 use Rattle.path_copies.specs.declared.known.KnownPath.{KnownPath}
 

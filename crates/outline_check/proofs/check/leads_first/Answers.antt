@@ -1,8 +1,8 @@
 use Rattle.std.proofs.Common.{ℕ, length, ◌<◌, ◌∙◌, subst, inl, inr, arith}
 use Rattle.std.proofs.lemmas.Bool.{cases_eq, cases_lt}
 use Rattle.std.proofs.lemmas.List.{get_or_default}
-use Rattle.polygon_optimal.specs.Inner.Lasts.{IsUpToLast}
-use Rattle.polygon_optimal.specs.Polygon.{penalty_of}
+use Rattle.polygon_search.specs.Inner.Lasts.{IsUpToLast}
+use Rattle.polygon_search.specs.Polygon.{penalty_of}
 use Rattle.outline_check.specs.Labels.{LeadsTo, label_at}
 use Rattle.outline_check.proofs.check.leads_first.Goals as goal
 

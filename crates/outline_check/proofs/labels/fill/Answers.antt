@@ -1,7 +1,7 @@
 use Rattle.std.proofs.Common.{◌≡◌, ℕ, ◌+◌, ◌-◌, ◌<◌, length, set, get_or-set_same, subst, arith}
 use Rattle.std.proofs.lemmas.List.{get_or-set_other, length-set}
-use Rattle.polygon_optimal.specs.Inner.Lasts.{IsUpToLast}
-use Rattle.polygon_optimal.specs.Polygon.{penalty_of}
+use Rattle.polygon_search.specs.Inner.Lasts.{IsUpToLast}
+use Rattle.polygon_search.specs.Polygon.{penalty_of}
 use Rattle.outline_check.specs.Labels.{no_label}
 use Rattle.outline_check.specs.Inner.Known.{AreRightDownTo}
 use Rattle.outline_check.proofs.Right.{known_more, begin_same}

@@ -1,6 +1,6 @@
 use Rattle.std.proofs.Common.{◌<◌, length}
-use Rattle.polygon_optimal.specs.Inner.Lasts.{IsUpToLast}
-use Rattle.polygon_optimal.specs.Polygon.{penalty_of}
+use Rattle.polygon_search.specs.Inner.Lasts.{IsUpToLast}
+use Rattle.polygon_search.specs.Polygon.{penalty_of}
 use Rattle.outline_check.specs.Inner.Known.{AreRightDownTo, IsWindowBegin}
 use Rattle.outline_check.proofs.labels.fill.Given as goal
 

@@ -1,9 +1,9 @@
 use Rattle.std.proofs.Common.{◌≡◌, ℕ, List, ◌++◌, length, take, sym, ap, ◌∙◌, subst, arith}
 use Rattle.std.proofs.Math.Seq.{take-append_seam}
 use Rattle.pt_core.specs.declared.point.Point.{Point}
-use Rattle.polygon_optimal.specs.Inner.Lasts.{IsUpToLast}
-use Rattle.polygon_optimal.specs.Polygon.{IsSegment, penalty_of}
-use Rattle.polygon_optimal.proofs.Reaching.{segment_up_to, up_to_segment}
+use Rattle.polygon_search.specs.Inner.Lasts.{IsUpToLast}
+use Rattle.polygon_search.specs.Polygon.{IsSegment, penalty_of}
+use Rattle.polygon_search.proofs.Reaching.{segment_up_to, up_to_segment}
 use Rattle.outline_check.specs.declared.label.Label.{Label}
 use Rattle.outline_check.specs.Certificate.{AreRightLabels}
 use Rattle.outline_check.specs.Inner.Known.{AreRightDownTo}

@@ -1,5 +1,5 @@
 use Rattle.std.proofs.Common.{length}
-use Rattle.polygon_optimal.specs.Polygon.{IsSegment, penalty_of}
+use Rattle.polygon_search.specs.Polygon.{IsSegment, penalty_of}
 use Rattle.outline_check.proofs.Best.{best}
 use Rattle.outline_check.proofs.Exists.{segment_goes_up}
 use Rattle.outline_check.proofs.laws.certified_polygons_are_best.Goals as goal

@@ -1,8 +1,8 @@
 use Rattle.std.proofs.Common.{◌≡◌, ℕ, ◌<◌, ◌≤◌, List, length, sym, subst, arith}
 use Rattle.pt_core.specs.declared.point.Point.{Point}
 use Rattle.prefix_moments.specs.Sums.{IsPenalty}
-use Rattle.polygon_optimal.specs.Inner.OnePenalty.{penalty_is, penalty_is_one}
-use Rattle.polygon_optimal.specs.Polygon.{penalty_of}
+use Rattle.polygon_search.specs.Inner.OnePenalty.{penalty_is, penalty_is_one}
+use Rattle.polygon_search.specs.Polygon.{penalty_of}
 use Rattle.outline_check.proofs.onward.cheaper_by.Goals as goal
 
 -- what was said of each penalty by one list of points is so of the penalty by the same list

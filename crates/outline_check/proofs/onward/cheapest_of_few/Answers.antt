@@ -1,6 +1,6 @@
 use Rattle.std.proofs.Common.{◌≡◌, ◌<◌, ◌≤◌, ap, ◌∙◌, inl, inr, arith}
 use Rattle.std.proofs.lemmas.Bool.{cases_lt}
-use Rattle.polygon_optimal.specs.Polygon.{penalty_of}
+use Rattle.polygon_search.specs.Polygon.{penalty_of}
 use Rattle.outline_check.specs.declared.onward.Onward.{Onward}
 use Rattle.outline_check.specs.Labels.{label_by}
 use Rattle.outline_check.proofs.Trying.{tried_more}

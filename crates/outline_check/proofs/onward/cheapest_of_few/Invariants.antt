@@ -1,5 +1,5 @@
 use Rattle.std.proofs.Common.{◌≤◌}
-use Rattle.polygon_optimal.specs.Polygon.{penalty_of}
+use Rattle.polygon_search.specs.Polygon.{penalty_of}
 use Rattle.outline_check.specs.Inner.LabelPoints.{IsCheapestBefore}
 use Rattle.outline_check.proofs.onward.cheapest_of_few.Given as goal
 

@@ -4,7 +4,7 @@ use Rattle.std.proofs.lemmas.List.{length-take}
 use Rattle.std.specs.Prelude.{slice_index_or}
 use Rattle.pt_core.specs.ClosedWalk.{point_at, origin}
 use Rattle.pt_core.specs.OnPage.{IsOnPage}
-use Rattle.polygon_optimal.specs.Polygon.{penalty_of}
+use Rattle.polygon_search.specs.Polygon.{penalty_of}
 use Rattle.outline_check.specs.declared.label.Label.{Label}
 use Rattle.outline_check.specs.declared.onward.Onward.{Onward}
 use Rattle.outline_check.specs.declared.onward.Window.{Window}

@@ -1,4 +1,4 @@
-use Rattle.polygon_optimal.specs.Inner.OnePenalty.{penalty_is, penalty_is_one}
+use Rattle.polygon_search.specs.Inner.OnePenalty.{penalty_is, penalty_is_one}
 use Rattle.polygon_optimal.proofs.laws.penalties_are_one.Goals as goal
 
 pub returns : goal.returns

@@ -1,4 +1,4 @@
-use Rattle.polygon_optimal.proofs.Small.{possible_most, total_most}
+use Rattle.polygon_search.proofs.Small.{possible_most, total_most}
 use Rattle.polygon_optimal.proofs.laws.penalties_are_small.Goals as goal
 
 pub returns-clause-segment : goal.returns-clause-segment

@@ -1,4 +1,4 @@
-use Rattle.polygon_optimal.proofs.Vertices.{some_vertices, vertices_below}
+use Rattle.polygon_search.proofs.Vertices.{some_vertices, vertices_below}
 use Rattle.polygon_optimal.proofs.laws.polygons_have_vertices.Goals as goal
 
 pub returns : goal.returns

@@ -2,8 +2,8 @@ use Rattle.std.proofs.Common.{◌≡◌, List, sym, subst}
 use Rattle.pt_core.specs.ClosedWalk.{IsClosedWalk}
 use Rattle.pt_core.specs.OnPage.{AreOnPage}
 use Rattle.pt_core.specs.declared.point.Point.{Point}
-use Rattle.polygon_optimal.specs.Inner.Lasts.{HasLasts}
-use Rattle.polygon_optimal.specs.Polygon.{IsBestPolygon, total_penalty}
+use Rattle.polygon_search.specs.Inner.Lasts.{HasLasts}
+use Rattle.polygon_search.specs.Polygon.{IsBestPolygon, total_penalty}
 use Rattle.polygon_optimal.proofs.optimal.measured.Goals as goal
 
 -- the sums are those of the points

@@ -1,6 +1,6 @@
 use Rattle.std.proofs.Common.{ap, ◌∙◌}
-use Rattle.polygon_optimal.specs.Polygon.{total_penalty}
-use Rattle.polygon_optimal.proofs.Reaching.{best_from_least}
+use Rattle.polygon_search.specs.Polygon.{total_penalty}
+use Rattle.polygon_search.proofs.Reaching.{best_from_least}
 use Rattle.polygon_optimal.proofs.optimal.polygon_of.Goals as goal
 
 pub returns-clause-best : goal.returns-clause-best

@@ -4,8 +4,8 @@ use Rattle.pt_core.specs.declared.point.Point.{Point}
 use Rattle.pt_core.specs.OnPage.{AreOnPage}
 use Rattle.prefix_moments.specs.Sums.{spread_of}
 use Rattle.straight_paths.specs.Straight.{IsPossible}
-use Rattle.polygon_optimal.specs.Polygon.{penalty_of}
-use Rattle.polygon_optimal.proofs.Small.{possible_cheap, possible_small}
+use Rattle.polygon_search.specs.Polygon.{penalty_of}
+use Rattle.polygon_search.proofs.Small.{possible_cheap, possible_small}
 use Rattle.cyclic_optimal.proofs.sides.WalkSegments.of.Goals as goal
 
 pub invariant_of-result-clause-small : goal.invariant_of-result-clause-small

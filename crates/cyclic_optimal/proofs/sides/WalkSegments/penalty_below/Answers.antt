@@ -2,8 +2,8 @@ use Rattle.std.proofs.Common.{◌≡◌, ℕ, ◌+◌, ◌<◌, ◌≤◌, ◌^�
 use Rattle.std.specs.Prelude.{IfNone, unsigned_abs}
 use Rattle.pt_core.specs.declared.point.Point.{Point}
 use Rattle.prefix_moments.specs.Sums.{IsPenalty, spread_of}
-use Rattle.polygon_optimal.specs.Polygon.{penalty_of}
-use Rattle.polygon_optimal.specs.Inner.OnePenalty.{penalty_is_one}
+use Rattle.polygon_search.specs.Polygon.{penalty_of}
+use Rattle.polygon_search.specs.Inner.OnePenalty.{penalty_is_one}
 use Rattle.cyclic_optimal.proofs.Worth.{dear, where_none, where_some}
 use Rattle.cyclic_optimal.proofs.sides.WalkSegments.penalty_below.Goals as goal
 

@@ -1,6 +1,6 @@
 use Rattle.std.proofs.Common.{◌≡◌, sym, subst, ◌∙◌}
 use Rattle.pt_core.specs.declared.polygon.Polygon.{Polygon}
-use Rattle.polygon_optimal.specs.Polygon.{IsBestPolygon, total_penalty}
+use Rattle.polygon_search.specs.Polygon.{IsBestPolygon, total_penalty}
 use Rattle.path_copies.specs.Inner.KnownPaths.{HasPolygon}
 use Rattle.path_copies.proofs.Same.{best_too, penalties_same}
 use Rattle.path_copies.proofs.copies.Copies.known_polygon.Goals as goal
