@@ -2,7 +2,7 @@
 use Rattle.std.proofs.Common.{◌≡◌, ℕ, pos, negsuc, List, [], ◌∷◌, refl, arith}
 use Rattle.std.proofs.lemmas.Int.{ints}
 use Rattle.pt_core.specs.declared.point.Point.{Point}
-use Rattle.half_penalties.specs.HalfPenalties.{GoesOneWay, IsBoundBefore, crosses_of}
+use Rattle.half_penalties.specs.Inner.HalfPenalties.{GoesOneWay, IsBoundBefore, crosses_of}
 use Rattle.half_penalties.specs.Inner.Products.{products_about, AreHalfSums}
 use Rattle.half_penalties.proofs.Forms.{bound_shown}
 use Rattle.half_penalties.proofs.Sums.{half_bound, squares_are}

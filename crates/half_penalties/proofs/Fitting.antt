@@ -7,7 +7,7 @@ use mir.Syntax.{w128}
 use Rattle.pt_core.specs.declared.limits.TheConstants.{LONGEST_SIDE, MOST_STEPS}
 use Rattle.pt_core.proofs.Sizes.{back, long_back, product_most}
 use Rattle.half_penalties.specs.declared.products.Products.{Products}
-use Rattle.half_penalties.specs.HalfPenalties.{IsSlant}
+use Rattle.half_penalties.specs.Inner.HalfPenalties.{IsSlant}
 use Rattle.half_penalties.specs.Inner.Products.{along_squares_of, AreHalfSums}
 
 -- the sum of the squares along a diagonal

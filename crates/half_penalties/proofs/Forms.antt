@@ -6,7 +6,7 @@ use Rattle.std.specs.Prelude.{unsigned_abs}
 use Rattle.pt_core.proofs.Terms.{Term, num, plus, less, times, same_value}
 use Rattle.prefix_moments.specs.Inner.Table.{spread_by}
 use Rattle.half_penalties.specs.declared.products.Products.{Products}
-use Rattle.half_penalties.specs.HalfPenalties.{along_of, IsSlant}
+use Rattle.half_penalties.specs.Inner.HalfPenalties.{along_of, IsSlant}
 use Rattle.half_penalties.specs.Inner.Products.{along_squares_of, determinant_of, AreHalfSums, IsBoundBy, IsShownBound}
 use Rattle.half_penalties.proofs.Naturals.{square_is, natural}
 

@@ -6,7 +6,7 @@ use Rattle.pt_core.specs.ClosedWalk.{IsClosedWalk, point_at}
 use Rattle.pt_core.specs.declared.point.Point.{Point}
 use Rattle.pt_core.proofs.Terms.{num, plus, less, times, same_value}
 use Rattle.prefix_moments.specs.Sums.{rightward_of, above_of}
-use Rattle.half_penalties.specs.HalfPenalties.{along_of, GoesOneWay, IsSlant}
+use Rattle.half_penalties.specs.Inner.HalfPenalties.{along_of, GoesOneWay, IsSlant}
 use Rattle.half_penalties.proofs.Forms.{slants}
 
 -- a walk goes no farther than it has steps

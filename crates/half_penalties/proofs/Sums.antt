@@ -14,10 +14,10 @@ use Rattle.prefix_moments.proofs.Prefixes.{sum_same}
 use Rattle.prefix_moments.proofs.Rows.{products_by}
 use Rattle.prefix_moments.proofs.Summing.{spread_is, squares_at_least, sum_most}
 use Rattle.half_penalties.specs.declared.products.Products.{Products}
-use Rattle.half_penalties.specs.HalfPenalties.{IsHalfBound, cross_from, crosses_of}
+use Rattle.half_penalties.specs.Inner.HalfPenalties.{IsHalfBound, cross_from, crosses_of}
 use Rattle.half_penalties.specs.Inner.Products.{moved_of, products_about, AreHalfSums, IsBoundBy}
 use Rattle.half_penalties.proofs.Naturals.{natural, square_is}
-use Rattle.half_penalties.specs.HalfPenalties.{along_of}
+use Rattle.half_penalties.specs.Inner.HalfPenalties.{along_of}
 
 -- sums are the same where each is
 pub products_same : (p q : Products) → p.xx ≡ q.xx → p.xy ≡ q.xy → p.yy ≡ q.yy → p ≡ q

@@ -9,7 +9,7 @@ use Rattle.prefix_moments.specs.Sums.{sum_of, spread_of, rightward_of, above_of,
 use Rattle.prefix_moments.proofs.Prefixes.{sum_same}
 use Rattle.prefix_moments.proofs.Summing.{split, squares_at_least}
 use Rattle.prefix_moments.proofs.Totals.{limit_reached}
-use Rattle.half_penalties.specs.HalfPenalties.{GoesOneWay, IsBoundBefore, IsBoundBehind, along_of, cross_from, crosses_of}
+use Rattle.half_penalties.specs.Inner.HalfPenalties.{GoesOneWay, IsBoundBefore, IsBoundBehind, along_of, cross_from, crosses_of}
 use Rattle.half_penalties.proofs.Naturals.{square_is, natural}
 use Rattle.half_penalties.proofs.Cauchy.{cauchy, with_one_more}
 

@@ -1,2 +1,3 @@
 -- What inner contracts alone speak of: no promise rests on it.
+pub mod HalfPenalties
 pub mod Products

@@ -1,2 +1,1 @@
-pub mod HalfPenalties
 pub mod Inner

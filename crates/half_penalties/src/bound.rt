@@ -1,7 +1,7 @@
 //! A half's bound by its sums.
 ghost use Rattle.std.specs.Prelude.{◌≡◌, ℕ, ◌*◌, ◌<◌, ◌≤◌, ◌^◌, ℤ, pos, ◌*ℤ◌, unsigned_abs, IsTrue};
 ghost use Rattle.pt_core.specs.declared.limits.TheConstants.{MOST_STEPS};
-ghost use Rattle.half_penalties.specs.HalfPenalties.{IsSlant};
+ghost use Rattle.half_penalties.specs.Inner.HalfPenalties.{IsSlant};
 ghost use Rattle.half_penalties.specs.Inner.Products.{along_squares_of, determinant_of, AreHalfSums, IsBoundBy, IsShownBound};
 
 use crate::products::Products;

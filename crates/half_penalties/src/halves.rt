@@ -5,7 +5,7 @@ ghost use Rattle.pt_core.specs.OnPage.{AreOnPage, IsOnPage};
 ghost use Rattle.pt_core.specs.declared.limits.TheConstants.{LONGEST_SIDE, MOST_STEPS};
 ghost use Rattle.prefix_moments.specs.Sums.{above_of, rightward_of};
 ghost use Rattle.prefix_moments.specs.Inner.Table.{IsRawOf, without_count};
-ghost use Rattle.half_penalties.specs.HalfPenalties.{along_of, GoesOneWay, IsBoundBefore, IsBoundBehind, IsSlant};
+ghost use Rattle.half_penalties.specs.Inner.HalfPenalties.{along_of, GoesOneWay, IsBoundBefore, IsBoundBehind, IsSlant};
 ghost use Rattle.half_penalties.specs.Inner.Products.{moved_of, products_about};
 
 use crate::bound::bound_by;

@@ -2,7 +2,7 @@
 ghost use Rattle.std.specs.Prelude.{ℕ, ◌+◌, ◌<◌, ◌≤◌, ℤ, List};
 ghost use Rattle.pt_core.specs.declared.point.Point.{Point};
 ghost use Rattle.prefix_moments.specs.Sums.{IsPenalty};
-ghost use Rattle.half_penalties.specs.HalfPenalties.{GoesOneWay, IsBoundBefore, IsBoundBehind};
+ghost use Rattle.half_penalties.specs.Inner.HalfPenalties.{GoesOneWay, IsBoundBefore, IsBoundBehind};
 
 /// The bounds of the two halves of a segment whose path goes one way are together at most its penalty.
 pub fn halves_add_up()

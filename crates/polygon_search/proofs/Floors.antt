@@ -7,7 +7,7 @@ use Rattle.pt_core.specs.declared.point.Point.{Point}
 use Rattle.half_penalties.specs.declared.halves.Halves.{Halves}
 use Rattle.polygon_search.specs.declared.bounds.Bound.{Bound}
 use Rattle.polygon_search.specs.Polygon.{penalty_of}
-use Rattle.polygon_search.specs.Inner.Bounds.{AreBoundsOf, AreWindows, IsInWindow, bound_at}
+use Rattle.polygon_search.specs.Inner.VertexBounds.{AreBoundsOf, AreWindowBegins, IsInWindow, bound_at}
 use Rattle.polygon_search.specs.Inner.Joining.{AreBlank, AreChanged, IsAheadFound, IsBehindFound, IsFloorChange}
 use Rattle.polygon_search.specs.Inner.Search.{counts_of}
 use Rattle.polygon_search.proofs.Counting.{AreCounted}
@@ -16,7 +16,7 @@ use Rattle.polygon_search.proofs.Joining.{AreJoined, changed_each}
 use Rattle.polygon_search.proofs.Windowed.{begin_near, end_before, last_within}
 
 module _ (size : ℕ) (lasts begins farthest : List ℕ) (known : AreCounted size lasts (counts_of size lasts))
-    (are : AreWindows size lasts begins farthest) (window : ℕ) (room : window + 1 < length farthest) where
+    (are : AreWindowBegins size lasts begins farthest) (window : ℕ) (room : window + 1 < length farthest) where
   abbrev begin : ℕ
   begin = slice_index begins (window + 1)
 

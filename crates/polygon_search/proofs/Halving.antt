@@ -3,13 +3,13 @@ use Rattle.std.proofs.Common.{◌≡◌, ℕ, ◌+◌, ◌-◌, ◌/◌, ◌<◌
 use Rattle.std.specs.Prelude.{Some, None, IfSome, slice_index}
 use Rattle.std.specs.declared.option.Option.{Option}
 use Rattle.pt_core.specs.declared.point.Point.{Point}
-use Rattle.half_penalties.specs.HalfPenalties.{GoesOneWay, IsBoundBefore, IsBoundBehind}
+use Rattle.half_penalties.specs.Inner.HalfPenalties.{GoesOneWay, IsBoundBefore, IsBoundBehind}
 use Rattle.half_penalties.specs.declared.halves.Halves.{Halves}
 use Rattle.half_penalties.proofs.Together.{together}
 use Rattle.polygon_search.specs.Polygon.{penalty_of}
 use Rattle.polygon_search.specs.Inner.OnePenalty.{penalty_is}
 use Rattle.polygon_search.specs.Inner.Joining.{IsAheadOf, IsBehindOf, ReachesBack, ReachesOn}
-use Rattle.polygon_search.proofs.Windowed.{IsBetween}
+use Rattle.polygon_search.proofs.Windowed.{IsMiddle}
 
 -- halves of segments from `first` on up to `last` over this middle were found
 pub record AreHalvesOf (points : List Point) (first at last : ℕ) (halves : Halves) : Type 0 where
@@ -28,7 +28,7 @@ pub middle_between : (end begin : ℕ) → end < begin → (end ≤ end + (begin
 middle_between end begin below = (omega arith, omega arith)
 
 -- such halves have few steps
-module _ (points : List Point) (begins farthest : List ℕ) (window at : ℕ) (between : IsBetween (length points) begins farthest window at) where
+module _ (points : List Point) (begins farthest : List ℕ) (window at : ℕ) (between : IsMiddle (length points) begins farthest window at) where
   abbrev first : ℕ
   first = slice_index begins window
 

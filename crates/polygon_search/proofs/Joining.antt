@@ -4,7 +4,7 @@ use Rattle.std.proofs.lemmas.Bool.{cases_eq, cases_lt}
 use Rattle.std.proofs.lemmas.List.{get_or-replicate, get_or-set_other, get_or_past, length-replicate, length-set}
 use Rattle.std.specs.Prelude.{slice_index, ◌⊎◌}
 use Rattle.polygon_search.specs.declared.bounds.Bound.{Bound}
-use Rattle.polygon_search.specs.Inner.Bounds.{AreBoundsOf, AreWindows, IsInWindow, IsJoined, bound_at, no_bound}
+use Rattle.polygon_search.specs.Inner.VertexBounds.{AreBoundsOf, AreWindowBegins, IsInWindow, IsPairBounded, bound_at, no_bound}
 use Rattle.polygon_search.specs.Inner.Joining.{AreBlank, AreChanged}
 use Rattle.polygon_search.specs.Inner.Search.{counts_of}
 use Rattle.polygon_search.proofs.Counting.{AreCounted}
@@ -103,17 +103,17 @@ pub record AreJoined (lasts begins farthest : List ℕ) (cost : ℕ → ℕ → 
   pub ahead : (k : ℕ) → slice_index farthest window < k → (bound_at after k).ahead ≡ (bound_at before k).ahead
   pub small : (k : ℕ) → slice_index begins (window + 1) ≤ k → (bound_at after k).floor < 2 ^ 56
   pub joined : (i j : ℕ) → IsInWindow begins farthest window i → slice_index begins (window + 1) ≤ j → j ≤ slice_index lasts i
-      → IsJoined (cost i j) (bound_at after i) (bound_at after j)
+      → IsPairBounded (cost i j) (bound_at after i) (bound_at after j)
 
 -- two vertices stay joined
-joined_still : (cost : ℕ) (i j k l : Bound) → k ≡ i → l.floor ≡ j.floor → l.behind ≡ j.behind → IsJoined cost i j → IsJoined cost k l
+joined_still : (cost : ℕ) (i j k l : Bound) → k ≡ i → l.floor ≡ j.floor → l.behind ≡ j.behind → IsPairBounded cost i j → IsPairBounded cost k l
 joined_still cost i j k l same floor behind joined =
     let ahead = ap (λ (b : Bound). b.ahead) same in
     let paid = ap (λ (b : Bound). b.floor) same in
     record { floor = omega (arith, joined.floor, paid, floor); halves = omega (arith, joined.halves, ahead, behind) }
 
 module _ (size : ℕ) (lasts begins farthest : List ℕ) (known : AreCounted size lasts (counts_of size lasts))
-    (are : AreWindows size lasts begins farthest) (cost : ℕ → ℕ → ℕ) (window : ℕ) (room : window + 1 < length farthest)
+    (are : AreWindowBegins size lasts begins farthest) (cost : ℕ → ℕ → ℕ) (window : ℕ) (room : window + 1 < length farthest)
     (before after : List Bound) (joined : AreJoined lasts begins farthest cost window before after) where
   -- a segment of an earlier window leads to a vertex up to the end of this one
   end_early : (earlier i j : ℕ) → earlier < window → IsInWindow begins farthest earlier i → slice_index begins (earlier + 1) ≤ j

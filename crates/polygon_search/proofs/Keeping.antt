@@ -9,7 +9,7 @@ use Rattle.least_walk.proofs.Filling.{costs_more, filled}
 use Rattle.polygon_search.specs.declared.bounds.Bound.{Bound}
 use Rattle.polygon_search.specs.Inner.Lasts.{IsUpToLast}
 use Rattle.polygon_search.specs.Inner.Search.{AreKept, slot_of}
-use Rattle.polygon_search.specs.Inner.Within.{AreKeptWithin, IsWithin}
+use Rattle.polygon_search.specs.Inner.Within.{AreKeptWithin, IsWithinLimit}
 use Rattle.polygon_search.proofs.Leasts.{AreCheap, least_small}
 use Rattle.polygon_search.proofs.Slots.{apart}
 
@@ -55,7 +55,7 @@ module _ (size : ℕ) (is_allowed : ℕ → ℕ → Type 0) (cost : ℕ → ℕ 
   -- one more is kept
   pub kept_more : (costs : List ℕ) (i slot c least : ℕ) → i < size → slot ≡ slot_of (length costs) i → slot < length costs
       → AreKeptWithin size is_allowed cost bounds limit (i + 1) costs → IsLeastCost size is_allowed cost i least
-      → least ≤ c → (IsWithin bounds limit i least → c ≡ least) → c < 2 ^ 56
+      → least ≤ c → (IsWithinLimit bounds limit i least → c ≡ least) → c < 2 ^ 56
       → AreKeptWithin size is_allowed cost bounds limit i (set costs slot c)
   kept_more costs i slot c least below is room later here enough exact small =
       let long : i < length later.whole = omega (arith, later.places) in
@@ -64,7 +64,7 @@ module _ (size : ℕ) (is_allowed : ℕ → ℕ → Type 0) (cost : ℕ → ℕ 
         places = omega (arith, later.places, length-set later.whole i least);
         are = costs_more size is_allowed cost i later.whole least long later.are here;
         enough = slots_more size (λ k s w. w ≤ s) costs later.whole i slot c least long is room enough later.enough;
-        exact = slots_more size (λ k s w. IsWithin bounds limit k w → s ≡ w) costs later.whole i slot c least long is room exact later.exact;
+        exact = slots_more size (λ k s w. IsWithinLimit bounds limit k w → s ≡ w) costs later.whole i slot c least long is room exact later.exact;
         small = λ k place above within near. slots_more size (λ k s w. IsPlace size is_allowed k → s < 2 ^ 56) costs later.whole i slot c least long is room
             (λ place. small) (λ k above within near place. later.small k place above within near) k above within near place;
       }
@@ -84,7 +84,7 @@ module _ (size : ℕ) (is_allowed : ℕ → ℕ → Type 0) (cost : ℕ → ℕ 
         ];
         enough = filled (λ k w. k ≤ size → k < i + length costs → w ≤ slice_index costs (slot_of (length costs) k)) later.whole i c long
             (λ within near. omega arith) (λ k above within near. later.enough k (omega arith) within (omega arith));
-        exact = filled (λ k w. k ≤ size → k < i + length costs → IsWithin bounds limit k w → slice_index costs (slot_of (length costs) k) ≡ w) later.whole i c long
+        exact = filled (λ k w. k ≤ size → k < i + length costs → IsWithinLimit bounds limit k w → slice_index costs (slot_of (length costs) k) ≡ w) later.whole i c long
             (λ within near inside. refl) (λ k above within near. later.exact k (omega arith) within (omega arith));
         small = λ k place above within near. elim (cases_eq k i) [
           | inl same ↦ absurd (none (subst (IsPlace size is_allowed) same place))

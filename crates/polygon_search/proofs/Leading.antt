@@ -9,7 +9,7 @@ use Rattle.least_walk.proofs.Going.{goes_below}
 use Rattle.least_walk.proofs.Onward.{least_cost_is_one, least_cost_step, length-least}
 use Rattle.least_walk.proofs.Written.{IsWritten, written_place}
 use Rattle.polygon_search.specs.declared.bounds.Bound.{Bound}
-use Rattle.polygon_search.specs.Inner.Bounds.{AreBounds, AreWindows, IsInWindow, bound_at}
+use Rattle.polygon_search.specs.Inner.VertexBounds.{AreBounds, AreWindowBegins, IsInWindow, bound_at}
 use Rattle.polygon_search.specs.Inner.Lasts.{AreRising, IsUpToLast, LeadsOn}
 use Rattle.polygon_search.specs.Inner.Search.{LeadsAlong, counts_of}
 use Rattle.polygon_search.specs.Inner.Within.{HasNextsWithin}
@@ -57,7 +57,7 @@ module _ (size : ℕ) (is_allowed : ℕ → ℕ → Type 0) (cost : ℕ → ℕ 
         }
 
 module _ (size : ℕ) (lasts begins farthest : List ℕ) (leads : (i : ℕ) → i < size → LeadsOn size i (slice_index lasts i)) (rising : AreRising size lasts)
-    (are : AreWindows size lasts begins farthest) (cost : ℕ → ℕ → ℕ) (bounds : List Bound) (known : AreBounds lasts begins farthest cost bounds) where
+    (are : AreWindowBegins size lasts begins farthest) (cost : ℕ → ℕ → ℕ) (bounds : List Bound) (known : AreBounds lasts begins farthest cost bounds) where
   -- the least way on leads from a window into the next one, so what is known of bounds holds of its segments
   floor_rises : (i j : ℕ) → i < size → IsPlace size (IsUpToLast lasts) i → IsLeastNext size (IsUpToLast lasts) cost i j
       → (bound_at bounds j).floor ≤ (bound_at bounds i).floor + cost i j

@@ -8,7 +8,7 @@ use Rattle.least_walk.specs.Inner.MarkedPlaces.{IsPlace}
 use Rattle.least_walk.proofs.Cheapest.{IsCheapest, cheapest_onward}
 use Rattle.least_walk.proofs.Going.{goes_below, total_cost-cons}
 use Rattle.least_walk.proofs.Places.{place_onward}
-use Rattle.polygon_search.specs.declared.search.Onward.{Onward}
+use Rattle.polygon_search.specs.declared.search.OnwardSegment.{OnwardSegment}
 use Rattle.polygon_search.specs.Inner.Lasts.{IsUpToLast}
 use Rattle.polygon_search.specs.Inner.Search.{HasCheapest}
 use Rattle.polygon_search.proofs.Counting.{AreCounted, last_keeps}
@@ -87,7 +87,7 @@ module _ (size : ℕ) (lasts counts : List ℕ) (known : AreCounted size lasts c
   pub costs_small : (k : ℕ) → begin ≤ k → k ≤ slice_index lasts i → slice_index costs k < 2 ^ 56
   costs_small k above near = least_small size lasts cost cheap k (slice_index costs k) (least_there k above near)
 
-  module _ (onward : Onward)
+  module _ (onward : OnwardSegment)
       (best : HasCheapest (λ k. cost i k + slice_index costs k) begin (slice_index lasts i + 1) onward) where
     is_cheapest : IsCheapest (λ k. IsUpToLast lasts i k × (slice_index counts k + 1 ≡ slice_index counts i))
         (λ k. cost i k + slice_index costs k) i (slice_index lasts i + 1) onward.cost onward.next

@@ -2,14 +2,14 @@
 use Rattle.std.proofs.Common.{◌≡◌, ℕ, zero, suc, ◌+◌, ◌-◌, ◌<◌, ◌≤◌, ◌^◌, ap, inl, inr, arith}
 use Rattle.std.proofs.lemmas.Bool.{cases_eq, cases_lt}
 use Rattle.polygon_search.specs.declared.bounds.Bound.{Bound}
-use Rattle.polygon_search.specs.declared.search.Onward.{Onward}
-use Rattle.polygon_search.specs.Inner.Bounds.{IsJoined}
+use Rattle.polygon_search.specs.declared.search.OnwardSegment.{OnwardSegment}
+use Rattle.polygon_search.specs.Inner.VertexBounds.{IsPairBounded}
 use Rattle.polygon_search.specs.Inner.Search.{HasCheapest}
 use Rattle.polygon_search.specs.Inner.Within.{IsOnwardBy}
 use Rattle.polygon_search.specs.Inner.Within.IsOnwardBy.{left_out, too_dear, kept}
 
 -- of some points one is the cheapest, and of several the first
-some_within : (cost_by : ℕ → ℕ) (begin d : ℕ) → (onward : Onward) × HasCheapest cost_by begin (begin + suc d) onward
+some_within : (cost_by : ℕ → ℕ) (begin d : ℕ) → (onward : OnwardSegment) × HasCheapest cost_by begin (begin + suc d) onward
 some_within cost_by begin zero = (
   record { cost = cost_by begin; next = begin },
   record {
@@ -52,7 +52,7 @@ some_within cost_by begin (suc d) =
       )
     ]
 
-pub some_cheapest : (cost_by : ℕ → ℕ) (begin end : ℕ) → begin < end → (onward : Onward) × HasCheapest cost_by begin end onward
+pub some_cheapest : (cost_by : ℕ → ℕ) (begin end : ℕ) → begin < end → (onward : OnwardSegment) × HasCheapest cost_by begin end onward
 some_cheapest cost_by begin end room =
     let (onward, is) = some_within cost_by begin (end - begin - 1) in
     let e : begin + suc (end - begin - 1) ≡ end = omega arith in
@@ -61,14 +61,14 @@ some_cheapest cost_by begin end room =
 -- what is known of the points that a point's segments lead to: what the best ways on from there cost, what their slots have,
 -- and what is left there at least
 pub record AreAhead (cost whole slots : ℕ → ℕ) (bounds : ℕ → Bound) (bound : Bound) (begin end limit rest : ℕ) : Type 0 where
-  pub joined : (k : ℕ) → begin ≤ k → k < end → IsJoined (cost k) bound (bounds k)
+  pub joined : (k : ℕ) → begin ≤ k → k < end → IsPairBounded (cost k) bound (bounds k)
   pub enough : (k : ℕ) → begin ≤ k → k < end → whole k ≤ slots k
   pub exact : (k : ℕ) → begin ≤ k → k < end → (bounds k).floor + whole k ≤ limit → slots k ≡ whole k
   pub left : (k : ℕ) → begin ≤ k → k < end → (bounds k).floor + whole k ≤ limit → rest ≤ (bounds k).behind + whole k
 
 -- the onward segment of a search within a limit: it costs no less than the best way on, which costs `least` and begins
 -- with the segment to `next`; and it is that one, where it is within the limit
-pub record IsOnwardWithin (within : Type 0) (least next : ℕ) (onward : Onward) : Type 0 where
+pub record IsOnwardWithin (within : Type 0) (least next : ℕ) (onward : OnwardSegment) : Type 0 where
   pub enough : least ≤ onward.cost
   pub exact : within → onward.cost ≡ least
   pub leads : within → onward.next ≡ next
@@ -76,7 +76,7 @@ pub record IsOnwardWithin (within : Type 0) (least next : ℕ) (onward : Onward)
 
 module _ (cost whole slots : ℕ → ℕ) (bounds : ℕ → Bound) (bound : Bound) (begin end limit rest : ℕ)
     (are : AreAhead cost whole slots bounds bound begin end limit rest)
-    (best : Onward) (is : HasCheapest (λ k. cost k + whole k) begin end best) where
+    (best : OnwardSegment) (is : HasCheapest (λ k. cost k + whole k) begin end best) where
   -- the point that the best way leads to is within the limit, if that is
   next_within : bound.floor + best.cost ≤ limit → (bounds best.next).floor + whole best.next ≤ limit
   next_within within = omega (arith, is.cost, (are.joined best.next is.above is.below).floor)
@@ -93,7 +93,7 @@ module _ (cost whole slots : ℕ → ℕ) (bounds : ℕ → Bound) (bound : Boun
     ))
   ]
 
-  module _ (onward : Onward) (by_slots : HasCheapest (λ k. cost k + slots k) begin end onward) where
+  module _ (onward : OnwardSegment) (by_slots : HasCheapest (λ k. cost k + slots k) begin end onward) where
     least_most : best.cost ≤ onward.cost
     least_most = omega (
       arith,
@@ -133,7 +133,7 @@ module _ (cost whole slots : ℕ → ℕ) (bounds : ℕ → Bound) (bound : Boun
     ]
 
   -- so a search within a limit goes on so
-  pub onward_is : (onward : Onward) → best.cost < 2 ^ 56 → limit < 2 ^ 56
+  pub onward_is : (onward : OnwardSegment) → best.cost < 2 ^ 56 → limit < 2 ^ 56
       → IsOnwardBy (λ k. cost k + slots k) begin end limit rest bound onward
       → IsOnwardWithin (bound.floor + best.cost ≤ limit) best.cost best.next onward
   onward_is onward small low (left_out above far) = record {

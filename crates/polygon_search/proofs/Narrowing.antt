@@ -7,11 +7,11 @@ use Rattle.least_walk.specs.Inner.Suffix.{IsLeastCost, IsLeastNext}
 use Rattle.least_walk.proofs.Filling.{filled}
 use Rattle.least_walk.proofs.Onward.{least_cost_is_one}
 use Rattle.polygon_search.specs.declared.bounds.Bound.{Bound}
-use Rattle.polygon_search.specs.declared.search.Onward.{Onward}
-use Rattle.polygon_search.specs.Inner.Bounds.{bound_at, IsJoined}
+use Rattle.polygon_search.specs.declared.search.OnwardSegment.{OnwardSegment}
+use Rattle.polygon_search.specs.Inner.VertexBounds.{bound_at, IsPairBounded}
 use Rattle.polygon_search.specs.Inner.Lasts.{IsUpToLast}
 use Rattle.polygon_search.specs.Inner.Search.{AreEnoughSlots, HasCheapest, slot_of}
-use Rattle.polygon_search.specs.Inner.Within.{AreKeptWithin, HasNextsWithin, IsLeastRest, IsOnwardBy, IsWithin}
+use Rattle.polygon_search.specs.Inner.Within.{AreKeptWithin, HasNextsWithin, IsLeastRest, IsOnwardBy, IsWithinLimit}
 use Rattle.polygon_search.proofs.Counting.{AreCounted, last_keeps}
 use Rattle.polygon_search.proofs.Keeping.{kept_more}
 use Rattle.polygon_search.proofs.Leasts.{AreCheap, IsBeforeWindow, best_onward, least_small, least_there, place_there}
@@ -22,16 +22,16 @@ use Rattle.polygon_search.proofs.Slots.{slot_below}
 pub record HasStepped (size : ℕ) (lasts : List ℕ) (cost : ℕ → ℕ → ℕ) (bounds : List Bound) (limit i : ℕ) (costs nexts : List ℕ) (paid : ℕ) : Type 0 where
   pub kept : AreKeptWithin size (IsUpToLast lasts) cost bounds limit i costs
   pub written : HasNextsWithin size (IsUpToLast lasts) cost bounds limit i nexts
-  pub exact : (c : ℕ) → IsLeastCost size (IsUpToLast lasts) cost i c → IsWithin bounds limit i c → paid ≡ c
+  pub exact : (c : ℕ) → IsLeastCost size (IsUpToLast lasts) cost i c → IsWithinLimit bounds limit i c → paid ≡ c
 
 -- so much is left from one point more
 pub rest_more : (size : ℕ) (is_allowed : ℕ → ℕ → Type 0) (cost : ℕ → ℕ → ℕ) (bounds : List Bound) (limit i end rest paid least : ℕ)
-    → ((c : ℕ) → IsLeastCost size is_allowed cost i c → IsWithin bounds limit i c → paid ≡ c)
+    → ((c : ℕ) → IsLeastCost size is_allowed cost i c → IsWithinLimit bounds limit i c → paid ≡ c)
     → least ≤ rest → least ≤ (bound_at bounds i).behind + paid
     → IsLeastRest size is_allowed cost bounds limit (i + 1) end rest → IsLeastRest size is_allowed cost bounds limit i end least
 rest_more size is_allowed cost bounds limit i end rest paid least exact below here later k c above near costs inside = elim (cases_eq k i) [
   | inl same ↦ (
-      let P : ℕ → Type 0 = λ m. IsLeastCost size is_allowed cost m c → IsWithin bounds limit m c → least ≤ (bound_at bounds m).behind + c in
+      let P : ℕ → Type 0 = λ m. IsLeastCost size is_allowed cost m c → IsWithinLimit bounds limit m c → least ≤ (bound_at bounds m).behind + c in
       subst P (sym same) (λ costs inside. omega (arith, exact c costs inside)) costs inside)
   | inr other ↦ omega (arith, later k c (omega arith) near costs inside)
 ]
@@ -46,7 +46,7 @@ module _ (size : ℕ) (lasts counts : List ℕ) (known : AreCounted size lasts c
       later.small k (place_there size lasts counts known cost cheap later.whole i begin here later.are k above near)
       (omega (arith, here.begins.above)) (omega (arith, on.within)) (omega (arith, on.beyond, slots.beyond i here.below))
 
-  module _ (joined : (k : ℕ) → begin ≤ k → k ≤ slice_index lasts i → IsJoined (cost i k) (bound_at bounds i) (bound_at bounds k))
+  module _ (joined : (k : ℕ) → begin ≤ k → k ≤ slice_index lasts i → IsPairBounded (cost i k) (bound_at bounds i) (bound_at bounds k))
       (end rest : ℕ) (reach : slice_index lasts i ≤ end) (left : IsLeastRest size (IsUpToLast lasts) cost bounds limit begin end rest) where
     ahead : AreAhead (cost i) (slice_index later.whole) (λ k. slice_index costs (slot_of (length costs) k)) (bound_at bounds) (bound_at bounds i)
         begin (slice_index lasts i + 1) limit rest
@@ -65,25 +65,25 @@ module _ (size : ℕ) (lasts counts : List ℕ) (known : AreCounted size lasts c
         let on = known.leads i here.below in
         here.begins.none_before (slice_index lasts i) on.beyond on.within (last_keeps size lasts counts known i here.below)
 
-    best : (onward : Onward) × HasCheapest (λ k. cost i k + slice_index later.whole k) begin (slice_index lasts i + 1) onward
+    best : (onward : OnwardSegment) × HasCheapest (λ k. cost i k + slice_index later.whole k) begin (slice_index lasts i + 1) onward
     best = some_cheapest (λ k. cost i k + slice_index later.whole k) begin (slice_index lasts i + 1) (omega (arith, reaches))
 
     -- what is found is kept, with where it leads
-    pub kept_on : (nexts : List ℕ) (slot : ℕ) (onward : Onward) → limit < 2 ^ 56
+    pub kept_on : (nexts : List ℕ) (slot : ℕ) (onward : OnwardSegment) → limit < 2 ^ 56
         → IsOnwardBy (λ k. cost i k + slice_index costs (slot_of (length costs) k)) begin (slice_index lasts i + 1) limit rest (bound_at bounds i) onward
         → slot ≡ slot_of (length costs) i → i < length nexts → HasNextsWithin size (IsUpToLast lasts) cost bounds limit (i + 1) nexts
         → HasStepped size lasts cost bounds limit i (set costs slot onward.cost) (set nexts i onward.next) onward.cost
     kept_on nexts slot onward low by is room written =
         let (first, is_best) = best in
         let (least, next) = best_onward size lasts counts known cost cheap later.whole i begin here later.are first is_best in
-        let found : IsOnwardWithin (IsWithin bounds limit i first.cost) first.cost first.next onward =
+        let found : IsOnwardWithin (IsWithinLimit bounds limit i first.cost) first.cost first.next onward =
         onward_is (cost i) (slice_index later.whole) (λ k. slice_index costs (slot_of (length costs) k)) (bound_at bounds) (bound_at bounds i)
         begin (slice_index lasts i + 1) limit rest ahead first is_best onward (least_small size lasts cost cheap i first.cost least) low by in
         let there : slot < length costs = omega (arith, is, slot_below (length costs) i slots.power) in
         record {
           kept = kept_more size (IsUpToLast lasts) cost bounds limit costs i slot onward.cost first.cost here.below is there later least found.enough found.exact found.small;
           written = λ k c above below place costs inside. filled
-              (λ k j. (c : ℕ) → k < size → IsPlace size (IsUpToLast lasts) k → IsLeastCost size (IsUpToLast lasts) cost k c → IsWithin bounds limit k c
+              (λ k j. (c : ℕ) → k < size → IsPlace size (IsUpToLast lasts) k → IsLeastCost size (IsUpToLast lasts) cost k c → IsWithinLimit bounds limit k c
               → IsLeastNext size (IsUpToLast lasts) cost k j) nexts i onward.next room
               (λ c below place costs inside. (
               let same = least_cost_is_one size (IsUpToLast lasts) cost i c first.cost costs least in

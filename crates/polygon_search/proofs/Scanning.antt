@@ -1,27 +1,27 @@
 -- The cheapest of several segments, while they are tried.
 use Rattle.std.proofs.Common.{◌≡◌, ℕ, ◌+◌, ◌<◌, ◌≤◌, List, length, refl, ap, sym, subst, inl, inr, arith}
 use Rattle.std.proofs.lemmas.Bool.{cases_eq, cases_lt}
-use Rattle.polygon_search.specs.declared.search.Onward.{Onward}
+use Rattle.polygon_search.specs.declared.search.OnwardSegment.{OnwardSegment}
 use Rattle.std.specs.Prelude.{slice_index}
 use Rattle.polygon_search.specs.Inner.Search.{HasCheapest, IsCheaperIn, slot_of}
 use Rattle.polygon_search.specs.Inner.Search.IsCheaperIn.{found, none}
 
 module _ (cost_by : ℕ → ℕ) where
-  pub tried_none : (begin : ℕ) (best : Onward) → IsCheaperIn cost_by begin begin best best
+  pub tried_none : (begin : ℕ) (best : OnwardSegment) → IsCheaperIn cost_by begin begin best best
   tried_none begin best = none refl (λ k above below. let no : ⊥ = omega arith in elim no [ ])
 
   -- nothing that was tried is cheaper than the one so far
-  so_far_most : (begin end : ℕ) (best onward : Onward) → IsCheaperIn cost_by begin end best onward → onward.cost ≤ best.cost
+  so_far_most : (begin end : ℕ) (best onward : OnwardSegment) → IsCheaperIn cost_by begin end best onward → onward.cost ≤ best.cost
   so_far_most begin end best onward (found lower is) = omega arith
-  so_far_most begin end best onward (none same dearer) = omega (arith, ap (λ (o : Onward). o.cost) same)
+  so_far_most begin end best onward (none same dearer) = omega (arith, ap (λ (o : OnwardSegment). o.cost) same)
 
-  so_far_least : (begin end : ℕ) (best onward : Onward) → IsCheaperIn cost_by begin end best onward
+  so_far_least : (begin end : ℕ) (best onward : OnwardSegment) → IsCheaperIn cost_by begin end best onward
       → (k : ℕ) → begin ≤ k → k < end → onward.cost ≤ cost_by k
   so_far_least begin end best onward (found lower is) k above below = is.cheapest k above below
-  so_far_least begin end best onward (none same dearer) k above below = omega (arith, ap (λ (o : Onward). o.cost) same, dearer k above below)
+  so_far_least begin end best onward (none same dearer) k above below = omega (arith, ap (λ (o : OnwardSegment). o.cost) same, dearer k above below)
 
   -- one more, which is no cheaper
-  passed : (begin end : ℕ) (best onward : Onward) → onward.cost ≤ cost_by end → IsCheaperIn cost_by begin end best onward
+  passed : (begin end : ℕ) (best onward : OnwardSegment) → onward.cost ≤ cost_by end → IsCheaperIn cost_by begin end best onward
       → IsCheaperIn cost_by begin (end + 1) best onward
   passed begin end best onward dear (found lower is) = found lower (record {
     above = is.above;
@@ -34,11 +34,11 @@ module _ (cost_by : ℕ → ℕ) where
     first = is.first;
   })
   passed begin end best onward dear (none same dearer) = none same (λ k above below. elim (cases_eq k end) [
-    | inl here ↦ omega (arith, ap cost_by here, ap (λ (o : Onward). o.cost) same)
+    | inl here ↦ omega (arith, ap cost_by here, ap (λ (o : OnwardSegment). o.cost) same)
     | inr other ↦ dearer k above (omega arith)
   ])
 
-  pub tried_more : (begin end : ℕ) (best so_far onward : Onward) → begin ≤ end
+  pub tried_more : (begin end : ℕ) (best so_far onward : OnwardSegment) → begin ≤ end
       → (cost_by end < so_far.cost → (onward.cost ≡ cost_by end) × (onward.next ≡ end))
       → (so_far.cost ≤ cost_by end → onward ≡ so_far)
       → IsCheaperIn cost_by begin end best so_far → IsCheaperIn cost_by begin (end + 1) best onward
@@ -61,7 +61,7 @@ module _ (cost_by : ℕ → ℕ) where
       ]
 
   -- the first one, and those beyond it
-  pub with_beyond : (begin end : ℕ) (first onward : Onward) → begin < end → HasCheapest cost_by begin (begin + 1) first
+  pub with_beyond : (begin end : ℕ) (first onward : OnwardSegment) → begin < end → HasCheapest cost_by begin (begin + 1) first
       → IsCheaperIn cost_by (begin + 1) end first onward → HasCheapest cost_by begin end onward
   with_beyond begin end first onward room is (found lower at) = record {
     above = omega (arith, at.above);
@@ -89,7 +89,7 @@ module _ (cost_by : ℕ → ℕ) where
       })
 
   -- all of them, where one of them is cheaper than the bound
-  pub below_bound : (begin to end : ℕ) (bound first onward : Onward) → begin ≤ to → to < end → cost_by to < bound.cost
+  pub below_bound : (begin to end : ℕ) (bound first onward : OnwardSegment) → begin ≤ to → to < end → cost_by to < bound.cost
       → IsCheaperIn cost_by begin (begin + 1) bound first → IsCheaperIn cost_by (begin + 1) end first onward
       → HasCheapest cost_by begin end onward
   below_bound begin to end bound first onward near room cheap (found lower is) beyond =
@@ -99,21 +99,21 @@ module _ (cost_by : ℕ → ℕ) where
     below = is.below;
     cost = is.cost;
     cheapest = λ k above below. elim (cases_lt k (begin + 1)) [
-      | inl here ↦ omega (arith, dearer k above here, ap (λ (o : Onward). o.cost) same)
+      | inl here ↦ omega (arith, dearer k above here, ap (λ (o : OnwardSegment). o.cost) same)
       | inr far ↦ is.cheapest k far below
     ];
     first = λ k above below. elim (cases_lt k (begin + 1)) [
-      | inl here ↦ omega (arith, dearer k above here, ap (λ (o : Onward). o.cost) same)
+      | inl here ↦ omega (arith, dearer k above here, ap (λ (o : OnwardSegment). o.cost) same)
       | inr far ↦ is.first k far below
     ];
   }
   below_bound begin to end bound first onward near room cheap (none same dearer) (none as_first others) = elim (cases_lt to (begin + 1)) [
     | inl here ↦ absurd (omega (arith, dearer to near here))
-    | inr far ↦ absurd (omega (arith, others to far room, ap (λ (o : Onward). o.cost) same))
+    | inr far ↦ absurd (omega (arith, others to far room, ap (λ (o : OnwardSegment). o.cost) same))
   ]
 
   -- one alone
-  pub alone : (to : ℕ) (onward : Onward) → onward.cost ≡ cost_by to → onward.next ≡ to → HasCheapest cost_by to (to + 1) onward
+  pub alone : (to : ℕ) (onward : OnwardSegment) → onward.cost ≡ cost_by to → onward.next ≡ to → HasCheapest cost_by to (to + 1) onward
   alone to onward is there = record {
     above = omega (arith, there);
     below = omega (arith, there);
@@ -123,11 +123,11 @@ module _ (cost_by : ℕ → ℕ) where
   }
 
   -- of which the cost is known
-  pub alone_costs : (to : ℕ) (onward : Onward) → HasCheapest cost_by to (to + 1) onward → onward.cost ≡ cost_by to
+  pub alone_costs : (to : ℕ) (onward : OnwardSegment) → HasCheapest cost_by to (to + 1) onward → onward.cost ≡ cost_by to
   alone_costs to onward is = let e : onward.next ≡ to = omega (arith, is.above, is.below) in omega (arith, is.cost, ap cost_by e)
 
 -- one more segment, whose numbers are known by other names
-pub tried_by : (cost_by : ℕ → ℕ) (begin to j worth : ℕ) (best so_far onward : Onward) → begin ≤ to → j ≡ to → worth ≡ cost_by to
+pub tried_by : (cost_by : ℕ → ℕ) (begin to j worth : ℕ) (best so_far onward : OnwardSegment) → begin ≤ to → j ≡ to → worth ≡ cost_by to
     → (worth < so_far.cost → (onward.cost ≡ worth) × (onward.next ≡ j)) → (so_far.cost ≤ worth → onward ≡ so_far)
     → IsCheaperIn cost_by begin to best so_far → IsCheaperIn cost_by begin (to + 1) best onward
 tried_by cost_by begin to j worth best so_far onward room ej ew taken kept is =

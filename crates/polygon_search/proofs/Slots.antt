@@ -13,7 +13,7 @@ use Rattle.least_walk.specs.Inner.MarkedPlaces.{IsPlace}
 use Rattle.least_walk.specs.Inner.Suffix.{IsLeastCost}
 use Rattle.least_walk.proofs.Filling.{costs_more}
 use Rattle.least_walk.proofs.Onward.{cost_at_end}
-use Rattle.polygon_search.specs.declared.search.Onward.{Onward}
+use Rattle.polygon_search.specs.declared.search.OnwardSegment.{OnwardSegment}
 use Rattle.polygon_search.specs.Inner.Search.{AreKept, HasCheapest, slot_of}
 
 -- a power of two is above 0
@@ -132,7 +132,7 @@ module _ (size : ℕ) (is_allowed : ℕ → ℕ → Type 0) (cost : ℕ → ℕ 
       (λ k above below. none k above (omega arith))
 
 -- the cheapest segment by one reckoning is that by another one with the same costs
-pub cheapest_same : (cost_by other_by : ℕ → ℕ) (begin end : ℕ) (onward : Onward) → ((k : ℕ) → begin ≤ k → k < end → cost_by k ≡ other_by k)
+pub cheapest_same : (cost_by other_by : ℕ → ℕ) (begin end : ℕ) (onward : OnwardSegment) → ((k : ℕ) → begin ≤ k → k < end → cost_by k ≡ other_by k)
     → HasCheapest cost_by begin end onward → HasCheapest other_by begin end onward
 cheapest_same cost_by other_by begin end onward same is =
     record {

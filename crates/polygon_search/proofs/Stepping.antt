@@ -3,7 +3,7 @@ use Rattle.std.proofs.Common.{◌≡◌, ℕ, ◌+◌, ◌<◌, ◌≤◌, ◌^�
 use Rattle.std.specs.Prelude.{slice_index}
 use Rattle.least_walk.specs.Inner.Suffix.{HasNexts, IsLeastCost, IsLeastNext}
 use Rattle.least_walk.proofs.Filling.{nexts_more}
-use Rattle.polygon_search.specs.declared.search.Onward.{Onward}
+use Rattle.polygon_search.specs.declared.search.OnwardSegment.{OnwardSegment}
 use Rattle.polygon_search.specs.Inner.Lasts.{AreRising, IsUpToLast, LeadsOn}
 use Rattle.polygon_search.specs.Inner.Search.{AreEnoughSlots, AreKept, AreWindowEnds, BeginsWindow, HasCheapest, counts_of, slot_of}
 use Rattle.polygon_search.proofs.Counting.{AreCounted, before_end, counted, last_keeps, some_left}
@@ -48,7 +48,7 @@ module _ (size : ℕ) (lasts counts : List ℕ) (known : AreCounted size lasts c
       omega (arith, kept_there k above near, costs_small size lasts counts known cost cheap later.whole i begin here later.are k above near)
 
   -- the cheapest segment begins the best way on
-  kept_best : (onward : Onward) → HasCheapest (λ k. cost i k + slice_index costs (slot_of (length costs) k)) begin (slice_index lasts i + 1) onward
+  kept_best : (onward : OnwardSegment) → HasCheapest (λ k. cost i k + slice_index costs (slot_of (length costs) k)) begin (slice_index lasts i + 1) onward
       → IsLeastCost size (IsUpToLast lasts) cost i onward.cost × IsLeastNext size (IsUpToLast lasts) cost i onward.next
   kept_best onward best =
       best_onward size lasts counts known cost cheap later.whole i begin here later.are onward
@@ -56,7 +56,7 @@ module _ (size : ℕ) (lasts counts : List ℕ) (known : AreCounted size lasts c
       (λ k above near. ap (λ n. cost i k + n) (kept_there k above (omega arith))) best)
 
   -- and it is kept, with where it leads
-  pub kept_on : (nexts : List ℕ) (slot : ℕ) (onward : Onward) → HasCheapest (λ k. cost i k + slice_index costs (slot_of (length costs) k)) begin (slice_index lasts i + 1) onward
+  pub kept_on : (nexts : List ℕ) (slot : ℕ) (onward : OnwardSegment) → HasCheapest (λ k. cost i k + slice_index costs (slot_of (length costs) k)) begin (slice_index lasts i + 1) onward
       → slot ≡ slot_of (length costs) i → i < length nexts → HasNexts size (IsUpToLast lasts) cost (i + 1) nexts
       → AreKept size (IsUpToLast lasts) cost i (set costs slot onward.cost) × HasNexts size (IsUpToLast lasts) cost i (set nexts i onward.next)
   kept_on nexts slot onward best is room written =

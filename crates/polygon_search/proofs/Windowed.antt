@@ -3,7 +3,7 @@ use Rattle.std.proofs.Common.{◌≡◌, ℕ, ◌+◌, ◌-◌, ◌<◌, ◌≤�
 use Rattle.std.proofs.lemmas.Bool.{cases_lt}
 use Rattle.std.specs.Prelude.{slice_index}
 use Rattle.pt_core.specs.declared.limits.TheConstants.{MOST_STEPS}
-use Rattle.polygon_search.specs.Inner.Bounds.{AreWindows, IsInWindow}
+use Rattle.polygon_search.specs.Inner.VertexBounds.{AreWindowBegins, IsInWindow}
 use Rattle.polygon_search.specs.Inner.Search.{BeginsWindow, counts_of}
 use Rattle.polygon_search.proofs.Counting.{AreCounted, last_keeps, rises}
 use Rattle.polygon_search.proofs.Opening.{HasNextWindow, begins_at_start, far_before, far_below, left_here, opens_at}
@@ -17,7 +17,7 @@ opens_before size lasts counts farthest window begin first w near reaches short 
     (λ k is. short k (omega arith))
 
 -- a point between this window and the next one is not too far from the vertices of either
-pub record IsBetween (size : ℕ) (begins farthest : List ℕ) (window at : ℕ) : Type 0 where
+pub record IsMiddle (size : ℕ) (begins farthest : List ℕ) (window at : ℕ) : Type 0 where
   pub order : slice_index farthest window ≤ at
   pub beyond : at < slice_index begins (window + 1)
   pub inside : at < size
@@ -26,7 +26,7 @@ pub record IsBetween (size : ℕ) (begins farthest : List ℕ) (window at : ℕ)
   pub on : slice_index farthest (window + 1) - at ≤ MOST_STEPS
 
 module _ (size : ℕ) (lasts begins farthest : List ℕ) (known : AreCounted size lasts (counts_of size lasts))
-    (are : AreWindows size lasts begins farthest) where
+    (are : AreWindowBegins size lasts begins farthest) where
   abbrev counts : List ℕ
   counts = counts_of size lasts
 
@@ -118,7 +118,7 @@ module _ (size : ℕ) (lasts begins farthest : List ℕ) (known : AreCounted siz
           let up = subst (λ n. slice_index lasts i ≤ slice_index lasts n) e rise in
           omega (arith, up, next_end)
 
-    pub is_between : (at : ℕ) → slice_index farthest window ≤ at → at < slice_index begins (window + 1) → IsBetween size begins farthest window at
+    pub is_between : (at : ℕ) → slice_index farthest window ≤ at → at < slice_index begins (window + 1) → IsMiddle size begins farthest window at
     is_between at order beyond =
         let first : ℕ = slice_index begins window in
         let near = begin_near window (omega (arith, room)) in

@@ -3,7 +3,7 @@ use Rattle.std.proofs.Common.{◌≡◌, ℕ, ◌+◌, ◌-◌, ◌<◌, ◌≤�
 use Rattle.std.proofs.lemmas.Bool.{cases_lt}
 use Rattle.std.specs.Prelude.{slice_index}
 use Rattle.least_walk.specs.Inner.Suffix.{IsFewestFrom}
-use Rattle.polygon_search.specs.Inner.Bounds.{AreWindows}
+use Rattle.polygon_search.specs.Inner.VertexBounds.{AreWindowBegins}
 use Rattle.polygon_search.specs.Inner.Lasts.{AreRising, IsUpToLast, LeadsOn}
 use Rattle.polygon_search.specs.Inner.Search.{AreWindowEnds, counts_of}
 use Rattle.polygon_search.proofs.Counting.{counted, counts_fewest, last_keeps, rises, some_left}
@@ -12,7 +12,7 @@ use Rattle.polygon_search.proofs.Opening.{HasNextWindow, begins_at_start, far_be
 use Rattle.polygon_search.proofs.Stepping.{windows}
 
 module _ (size : ℕ) (lasts begins farthest : List ℕ) (leads : (i : ℕ) → i < size → LeadsOn size i (slice_index lasts i)) (rising : AreRising size lasts)
-    (are : AreWindows size lasts begins farthest) (window : ℕ) (room : window + 1 < length farthest) where
+    (are : AreWindowBegins size lasts begins farthest) (window : ℕ) (room : window + 1 < length farthest) where
   abbrev far : ℕ
   far = slice_index farthest window
 
@@ -75,7 +75,7 @@ module _ (size : ℕ) (lasts begins farthest : List ℕ) (leads : (i : ℕ) → 
 
 -- the last window is the end
 pub last_at_end : (size : ℕ) (lasts begins farthest : List ℕ) → ((i : ℕ) → i < size → LeadsOn size i (slice_index lasts i)) → AreRising size lasts
-    → AreWindows size lasts begins farthest → (window : ℕ) → window + 1 ≡ length farthest → slice_index begins window ≡ size
+    → AreWindowBegins size lasts begins farthest → (window : ℕ) → window + 1 ≡ length farthest → slice_index begins window ≡ size
 last_at_end size lasts begins farthest leads rising are window last =
     let counts = counts_of size lasts in
     let known = counted size lasts leads rising in
@@ -92,7 +92,7 @@ last_at_end size lasts begins farthest leads rising are window last =
     ]
 
 -- and the first one begins at the start
-pub first_at_start : (size : ℕ) (lasts begins farthest : List ℕ) → AreWindows size lasts begins farthest → slice_index begins 0 ≡ 0
+pub first_at_start : (size : ℕ) (lasts begins farthest : List ℕ) → AreWindowBegins size lasts begins farthest → slice_index begins 0 ≡ 0
 first_at_start size lasts begins farthest are =
     begins_at_start size (counts_of size lasts) (slice_index begins 0) (are.each 0 (omega (arith, are.count, are.ends.count)))
 

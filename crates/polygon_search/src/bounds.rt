@@ -12,7 +12,7 @@ ghost use Rattle.std.specs.Prelude.{◌≡◌, ℕ, ◌+◌, ◌<◌, ◌≤◌,
 ghost use Rattle.pt_core.specs.ClosedWalk.{IsClosedWalk};
 ghost use Rattle.prefix_moments.specs.Sums.{spread_of};
 ghost use Rattle.polygon_search.specs.Polygon.{penalty_of};
-ghost use Rattle.polygon_search.specs.Inner.Bounds.{AreBounds, AreBoundsOf, AreWindows, bound_at, no_bound};
+ghost use Rattle.polygon_search.specs.Inner.VertexBounds.{AreBounds, AreBoundsOf, AreWindowBegins, bound_at, no_bound};
 ghost use Rattle.polygon_search.specs.Inner.Joining.{AreBlank, AreChanged, IsAheadFound, IsAheadOf, IsBehindFound, IsBehindOf, IsFloorChange, IsLowered, ReachesBack, ReachesOn};
 
 use crate::segments::Segments;
@@ -59,7 +59,7 @@ pub(crate) fn fill_bounds(
 )
     requires closed { IsClosedWalk segments.now.moments.now }
     requires places { length segments.now.moments.now + 1 ≤ length bounds.old }
-    requires windows { AreWindows (length segments.now.moments.now) segments.now.lasts.items begins.now farthest.now }
+    requires windows { AreWindowBegins (length segments.now.moments.now) segments.now.lasts.items begins.now farthest.now }
     ensures places { length bounds.new ≡ length bounds.old }
     ensures bounds { AreBounds segments.now.lasts.items begins.now farthest.now
         (penalty_of segments.now.moments.now) bounds.new }
@@ -96,7 +96,7 @@ fn join_by_segments(
     roots: &mut Roots,
 )
     requires places { length segments.now.moments.now + 1 ≤ length bounds.old }
-    requires windows { AreWindows (length segments.now.moments.now) segments.now.lasts.items begins.now farthest.now }
+    requires windows { AreWindowBegins (length segments.now.moments.now) segments.now.lasts.items begins.now farthest.now }
     requires window { window + 1 < length farthest.now }
     requires bounds { AreBoundsOf segments.now.lasts.items begins.now farthest.now
         (penalty_of segments.now.moments.now) window bounds.old }
@@ -174,7 +174,7 @@ fn join_by_halves(
 )
     requires closed { IsClosedWalk segments.now.moments.now }
     requires places { length segments.now.moments.now + 1 ≤ length bounds.old }
-    requires windows { AreWindows (length segments.now.moments.now) segments.now.lasts.items begins.now farthest.now }
+    requires windows { AreWindowBegins (length segments.now.moments.now) segments.now.lasts.items begins.now farthest.now }
     requires window { window + 1 < length farthest.now }
     requires bounds { AreBoundsOf segments.now.lasts.items begins.now farthest.now
         (penalty_of segments.now.moments.now) window bounds.old }

@@ -1,8 +1,8 @@
 //! The search for the best polygon of a path, by how far its segments reach.
 //!
-//! What the best polygon is, and what calls it, stands above, in `polygon_optimal`. Here are the segments of a path as steps
-//! (`segments`), the windows in which vertices stand (`windows`), and two searches through these from the end: of all
-//! segments between windows (`search`), and within a limit (`within`), which leaves vertices out by bounds (`bounds`).
+//! What calls it stands above, in `polygon_optimal`. Here are the segments of a path as steps (`segments`), and the windows
+//! in which vertices stand (`windows`). Two searches go through these from the end. One looks at all segments between
+//! windows (`search`). The other stays within a limit (`within`), and leaves vertices out by bounds (`bounds`).
 #![tactic(auto)]
 
 mod bounds;

@@ -4,7 +4,7 @@
 //! vertices is found. Nothing is proved of it: any number will do for a limit.
 ghost use Rattle.std.specs.Prelude.{ℕ, ◌+◌, ◌<◌, ◌≤◌, ◌^◌, length, slice_index};
 ghost use Rattle.polygon_search.specs.declared.limit.TheConstants.{PARTS};
-ghost use Rattle.polygon_search.specs.Inner.Bounds.{AreWindows};
+ghost use Rattle.polygon_search.specs.Inner.VertexBounds.{AreWindowBegins};
 
 use crate::bounds::{Bound, FAR};
 use crate::segments::Segments;
@@ -27,7 +27,7 @@ pub(crate) fn likely_limit(
     bounds: &[Bound],
 ) -> u64
     requires places { length segments.now.moments.now + 1 ≤ length bounds.now }
-    requires windows { AreWindows (length segments.now.moments.now) segments.now.lasts.items begins.now farthest.now }
+    requires windows { AreWindowBegins (length segments.now.moments.now) segments.now.lasts.items begins.now farthest.now }
 {
     let mut chosen = Chosen {
         at: [0; PARTS],

@@ -40,7 +40,7 @@ const BENDING: usize = 1 << 8;
 // What it costs has 64 bits, where `least` takes 128: the contract of `Steps` allows a penalty to 2^56, so a sum of 2^31
 // of them needs 87 bits; but the penalty of a possible segment is below 2^24.
 #[derive(Clone, Copy)]
-pub(crate) struct Onward {
+pub(crate) struct OnwardSegment {
     /// What the polygon costs from this segment on to the end: less than 2^56.
     pub(crate) cost: u64,
     /// Where the segment leads.
@@ -312,7 +312,7 @@ pub(crate) fn cheapest_from(
     guess: u32,
     costs: &[u64],
     roots: &mut Roots,
-) -> Onward
+) -> OnwardSegment
     requires nearest { nearest.moments.now ≡ segments.now.moments.now }
     requires some { nearest.to ≤ slice_index segments.now.lasts.items nearest.from }
     requires lap { nearest.to < length segments.now.moments.now
@@ -347,7 +347,7 @@ fn cheapest_by_guess(
     guess: u32,
     costs: &[u64],
     roots: &mut Roots,
-) -> Onward
+) -> OnwardSegment
     requires nearest { nearest.moments.now ≡ segments.now.moments.now }
     requires some { nearest.to ≤ slice_index segments.now.lasts.items nearest.from }
     requires lap { slice_index segments.now.lasts.items nearest.from < length segments.now.moments.now }
@@ -364,7 +364,7 @@ fn cheapest_by_guess(
     let guessed = Growing::in_lap(segments.moments, segments.points, from, to);
     let tried = onward_by(segments, &guessed, costs, roots);
     // A nearer one that costs as much is better.
-    let bound = Onward {
+    let bound = OnwardSegment {
         cost: tried.cost + 1,
         next: to,
     };
@@ -376,7 +376,7 @@ fn cheapest_by_guess(
 
 /// This segment, and what the polygon costs from it on.
 #[inline(always)]
-fn onward_by(segments: &Segments, segment: &Growing, costs: &[u64], roots: &mut Roots) -> Onward
+fn onward_by(segments: &Segments, segment: &Growing, costs: &[u64], roots: &mut Roots) -> OnwardSegment
     requires segment { segment.now.moments.now ≡ segments.now.moments.now }
     requires reached { segment.now.to ≤ slice_index segments.now.lasts.items segment.now.from }
     requires slots { IsPowerOfTwo (length costs.now) }
@@ -386,7 +386,7 @@ fn onward_by(segments: &Segments, segment: &Growing, costs: &[u64], roots: &mut 
         segment.now.to (segment.now.to + 1) result }
 {
     let rest = costs[slot(costs, segment.to as usize)];
-    Onward {
+    OnwardSegment {
         cost: segment.penalty_by(roots) + rest,
         next: segment.to,
     }
@@ -400,10 +400,10 @@ fn cheaper_beyond(
     segment: &Growing,
     stop: u32,
     costs: &[u64],
-    best: Onward,
+    best: OnwardSegment,
     seldom: bool,
     roots: &mut Roots,
-) -> Onward
+) -> OnwardSegment
     requires segment { segment.now.moments.now ≡ segments.now.moments.now }
     requires some { segment.now.to < stop }
     requires ends { stop ≤ slice_index segments.now.lasts.items segment.now.from + 1 }
@@ -432,9 +432,9 @@ fn cheaper_far_beyond(
     segment: &Growing,
     stop: u32,
     costs: &[u64],
-    best: Onward,
+    best: OnwardSegment,
     roots: &mut Roots,
-) -> Onward
+) -> OnwardSegment
     requires segment { segment.now.moments.now ≡ segments.now.moments.now }
     requires some { segment.now.to < stop }
     requires ends { stop ≤ slice_index segments.now.lasts.items segment.now.from + 1 }
@@ -455,10 +455,10 @@ fn cheaper_by(
     segments: &Segments,
     segment: &Growing,
     rest: u64,
-    best: Onward,
+    best: OnwardSegment,
     seldom: bool,
     roots: &mut Roots,
-) -> Onward
+) -> OnwardSegment
     requires segment { segment.now.moments.now ≡ segments.now.moments.now }
     requires reached { segment.now.to ≤ slice_index segments.now.lasts.items segment.now.from }
     ensures cheaper { penalty_of segments.now.moments.now segment.now.from segment.now.to + rest < best.cost
@@ -474,7 +474,7 @@ fn cheaper_by(
     if segment.reaches(limit) {
         return best;
     }
-    Onward {
+    OnwardSegment {
         cost: penalty(segment, seldom, roots) + rest,
         next: segment.to,
     }

@@ -1,7 +1,7 @@
 //! Where windows begin.
 ghost use Rattle.std.specs.Prelude.{◌≡◌, ℕ, ◌+◌, ◌<◌, ◌≤◌, length, slice_index, OnOk, IfOk};
 ghost use Rattle.polygon_search.specs.Inner.Search.{AreWindowEnds, BeginsWindow, counts_of};
-ghost use Rattle.polygon_search.specs.Inner.Bounds.{AreWindows};
+ghost use Rattle.polygon_search.specs.Inner.VertexBounds.{AreWindowBegins};
 
 use crate::segments::Segments;
 use pt_core::NoMemory;
@@ -18,7 +18,7 @@ pub(crate) fn fill_begins(
     begins: &mut Vec<u32>,
 ) -> Result<(), NoMemory>
     requires ends { AreWindowEnds (length segments.now.moments.now) segments.now.lasts.items farthest.now }
-    ensures { OnOk result (AreWindows (length segments.now.moments.now) segments.now.lasts.items begins.new.items farthest.now) }
+    ensures { OnOk result (AreWindowBegins (length segments.now.moments.now) segments.now.lasts.items begins.new.items farthest.now) }
 {
     begins.clear();
     begins.resize(farthest.len(), segments.lasts.len() as u32)?;

@@ -15,13 +15,13 @@ ghost use Rattle.polygon_search.specs.Inner.Lasts.{IsUpToLast};
 ghost use Rattle.polygon_search.specs.Polygon.{penalty_of};
 ghost use Rattle.least_walk.specs.LeastWalk.{IsLeast, walk_from, step_count, total_cost};
 ghost use Rattle.polygon_search.specs.Inner.Search.{AreEnoughSlots, AreWindowEnds, slot_of};
-ghost use Rattle.polygon_search.specs.Inner.Bounds.{AreBounds, AreWindows};
+ghost use Rattle.polygon_search.specs.Inner.VertexBounds.{AreBounds, AreWindowBegins};
 ghost use Rattle.polygon_search.specs.Inner.Within.{AreKeptWithin, HasNextsWithin, IsLeastRest, IsOnwardBy};
 
 use crate::bounds::{Bound, FAR, fill_bounds};
 use crate::limit::likely_limit;
 use crate::room::make_places;
-use crate::search::{Onward, cheapest_from, nearest_from, slot, walk_along};
+use crate::search::{OnwardSegment, cheapest_from, nearest_from, slot, walk_along};
 use crate::segments::Segments;
 use crate::windows::{fill_begins, is_worth};
 use least_walk::Walk;
@@ -89,7 +89,7 @@ pub(crate) fn fill_costs_within(
     requires slots { AreEnoughSlots (length segments.now.moments.now) segments.now.lasts.items (length costs.old) }
     requires next_places { length segments.now.moments.now + 1 ≤ length nexts.old }
     requires bound_places { length segments.now.moments.now + 1 ≤ length bounds.now }
-    requires windows { AreWindows (length segments.now.moments.now) segments.now.lasts.items begins.now farthest.now }
+    requires windows { AreWindowBegins (length segments.now.moments.now) segments.now.lasts.items begins.now farthest.now }
     requires bounds { AreBounds segments.now.lasts.items begins.now farthest.now
         (penalty_of segments.now.moments.now) bounds.now }
     ensures cost { slice_index costs.new 0 ≤ limit → IsLeastCost (length segments.now.moments.now)
@@ -127,7 +127,7 @@ fn fill_window_within(
     requires slots { AreEnoughSlots (length segments.now.moments.now) segments.now.lasts.items (length costs.old) }
     requires next_places { length segments.now.moments.now + 1 ≤ length nexts.old }
     requires bound_places { length segments.now.moments.now + 1 ≤ length bounds.now }
-    requires windows { AreWindows (length segments.now.moments.now) segments.now.lasts.items begins.now farthest.now }
+    requires windows { AreWindowBegins (length segments.now.moments.now) segments.now.lasts.items begins.now farthest.now }
     requires bounds { AreBounds segments.now.lasts.items begins.now farthest.now
         (penalty_of segments.now.moments.now) bounds.now }
     requires window { window + 1 < length farthest.now }
@@ -177,7 +177,7 @@ fn onward_within(
     guess: u32,
     costs: &[u64],
     roots: &mut Roots,
-) -> Onward
+) -> OnwardSegment
     requires nearest { nearest.moments.now ≡ segments.now.moments.now }
     requires some { nearest.to ≤ slice_index segments.now.lasts.items nearest.from }
     requires lap { nearest.to < length segments.now.moments.now
@@ -193,7 +193,7 @@ fn onward_within(
         (λ k. penalty_of segments.now.moments.now nearest.entry.from k + slice_index costs.now (slot_of (length costs.now) k))
         nearest.entry.to (slice_index segments.now.lasts.items nearest.entry.from + 1) limit rest bound result }
 {
-    let far = Onward {
+    let far = OnwardSegment {
         cost: FAR,
         next: guess,
     };
@@ -202,7 +202,7 @@ fn onward_within(
     }
     let onward = cheapest_from(segments, nearest, guess, costs, roots);
     if limit < bound.floor + onward.cost {
-        return Onward {
+        return OnwardSegment {
             cost: FAR,
             next: onward.next,
         };

@@ -6,7 +6,7 @@ use Rattle.prefix_moments.specs.Sums.{sum_over, rightward_of, above_of}
 use Rattle.prefix_moments.specs.Inner.Table.{spread_by, offsets_of, without_count}
 use Rattle.prefix_moments.specs.declared.sums.Sums.{Sums}
 use Rattle.half_penalties.specs.declared.products.Products.{Products}
-use Rattle.half_penalties.specs.HalfPenalties.{along_of}
+use Rattle.half_penalties.specs.Inner.HalfPenalties.{along_of}
 
 -- those of the offsets of the points from number lo to number hi, from point number o
 abbrev pub products_about : List Point → ℕ → ℕ → ℕ → Products

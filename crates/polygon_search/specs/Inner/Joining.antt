@@ -2,10 +2,10 @@
 use Rattle.std.specs.Prelude.{◌≡◌, ℕ, ◌+◌, ◌-◌, ◌⊎◌, ◌<◌, ◌≤◌, ◌^◌, List, length, slice_index, IfSome, IfNone}
 use Rattle.std.specs.declared.option.Option.{Option}
 use Rattle.pt_core.specs.declared.limits.TheConstants.{MOST_STEPS}
-use Rattle.half_penalties.specs.HalfPenalties.{IsBoundBefore, IsBoundBehind}
+use Rattle.half_penalties.specs.Inner.HalfPenalties.{IsBoundBefore, IsBoundBehind}
 use Rattle.half_penalties.specs.declared.halves.Halves.{Halves}
 use Rattle.polygon_search.specs.declared.bounds.Bound.{Bound}
-use Rattle.polygon_search.specs.Inner.Bounds.{bound_at}
+use Rattle.polygon_search.specs.Inner.VertexBounds.{bound_at}
 
 -- of no vertex of this window or a later one is anything ahead, and of none of the later ones is anything behind
 pub record AreBlank (begins farthest : List ℕ) (window : ℕ) (bounds : List Bound) : Type 0 where

@@ -3,7 +3,7 @@ use Rattle.std.specs.Prelude.{◌≡◌, ℕ, zero, suc, ◌+◌, ◌-◌, ◌%�
 use Rattle.std.specs.Int.{IsPowerOfTwo}
 use Rattle.least_walk.specs.Inner.MarkedPlaces.{IsPlace}
 use Rattle.least_walk.specs.Inner.Suffix.{HasCosts, IsLeastCost, IsLeastNext}
-use Rattle.polygon_search.specs.declared.search.Onward.{Onward}
+use Rattle.polygon_search.specs.declared.search.OnwardSegment.{OnwardSegment}
 
 -- from each later point, from `low` to the end, no more segments are left than from an earlier one
 abbrev pub AreFalling : ℕ → ℕ → List ℕ → Type 0
@@ -49,7 +49,7 @@ abbrev pub slot_of : ℕ → ℕ → ℕ
 slot_of slots k = k % slots
 
 -- of the points from `begin` to before `end` this is the cheapest, and of several the first
-pub record HasCheapest (cost_by : ℕ → ℕ) (begin end : ℕ) (onward : Onward) : Type 0 where
+pub record HasCheapest (cost_by : ℕ → ℕ) (begin end : ℕ) (onward : OnwardSegment) : Type 0 where
   pub above : begin ≤ onward.next
   pub below : onward.next < end
   pub cost : onward.cost ≡ cost_by onward.next
@@ -57,7 +57,7 @@ pub record HasCheapest (cost_by : ℕ → ℕ) (begin end : ℕ) (onward : Onwar
   pub first : (k : ℕ) → begin ≤ k → k < onward.next → onward.cost < cost_by k
 
 -- it is the one that is cheaper than `best`; or there is none, and it is `best`
-pub data IsCheaperIn (cost_by : ℕ → ℕ) (begin end : ℕ) (best onward : Onward) : Type 0 where
+pub data IsCheaperIn (cost_by : ℕ → ℕ) (begin end : ℕ) (best onward : OnwardSegment) : Type 0 where
   found : onward.cost < best.cost → HasCheapest cost_by begin end onward → IsCheaperIn cost_by begin end best onward
   none : onward ≡ best → ((k : ℕ) → begin ≤ k → k < end → best.cost ≤ cost_by k) → IsCheaperIn cost_by begin end best onward
 

@@ -1,6 +1,6 @@
 use Rattle.std.proofs.Common.{◌≡◌, length}
 use Rattle.polygon_search.specs.Polygon.{penalty_of}
-use Rattle.polygon_search.specs.Inner.Bounds.{AreBoundsOf}
+use Rattle.polygon_search.specs.Inner.VertexBounds.{AreBoundsOf}
 use Rattle.polygon_search.specs.Inner.Joining.{AreBlank}
 use Rattle.polygon_search.proofs.bounds.fill_bounds.Given as goal
 

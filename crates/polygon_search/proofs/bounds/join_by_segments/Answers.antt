@@ -3,7 +3,7 @@ use Rattle.std.proofs.lemmas.Bool.{cases_lt}
 use Rattle.std.specs.Prelude.{slice_index}
 use Rattle.polygon_search.specs.declared.bounds.Bound.{Bound}
 use Rattle.polygon_search.specs.Polygon.{penalty_of}
-use Rattle.polygon_search.specs.Inner.Bounds.{IsInWindow, bound_at}
+use Rattle.polygon_search.specs.Inner.VertexBounds.{IsInWindow, bound_at}
 use Rattle.polygon_search.specs.Inner.Joining.{IsFloorChange, IsLowered}
 use Rattle.polygon_search.proofs.Counting.{counted}
 use Rattle.polygon_search.proofs.Floors.{joined_by_segments}

@@ -1,7 +1,7 @@
 use Rattle.std.proofs.Common.{ℕ, ◌+◌, ◌<◌, ◌≤◌}
 use Rattle.std.specs.Prelude.{slice_index}
 use Rattle.polygon_search.specs.Polygon.{penalty_of}
-use Rattle.polygon_search.specs.Inner.Bounds.{bound_at}
+use Rattle.polygon_search.specs.Inner.VertexBounds.{bound_at}
 use Rattle.polygon_search.specs.Inner.Joining.{AreChanged, IsFloorChange}
 use Rattle.polygon_search.proofs.bounds.join_by_segments.Given as goal
 

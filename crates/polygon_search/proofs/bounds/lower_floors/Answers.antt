@@ -1,5 +1,5 @@
 use Rattle.std.proofs.Common.{ℕ, ◌+◌, ap, ◌∙◌, arith}
-use Rattle.polygon_search.specs.Inner.Bounds.{bound_at}
+use Rattle.polygon_search.specs.Inner.VertexBounds.{bound_at}
 use Rattle.polygon_search.specs.Inner.Joining.{IsLowered}
 use Rattle.polygon_search.specs.Polygon.{penalty_of}
 use Rattle.polygon_search.proofs.Counting.{last_of}

@@ -1,6 +1,6 @@
 use Rattle.std.proofs.Common.{ℕ, ◌+◌, ◌<◌, ◌≤◌, length, subst, arith}
 use Rattle.std.specs.Prelude.{slice_index}
-use Rattle.polygon_search.specs.declared.search.Onward.{Onward}
+use Rattle.polygon_search.specs.declared.search.OnwardSegment.{OnwardSegment}
 use Rattle.polygon_search.specs.Inner.Search.{HasCheapest, slot_of}
 use Rattle.polygon_search.specs.Polygon.{penalty_of}
 use Rattle.polygon_search.proofs.Counting.{last_of}
@@ -22,7 +22,7 @@ returns c =
     let room : to < c.index-last.result.now + 1 = omega (arith, c.min-to.ensures) in
     let guessed = c.in_lap-guessed.ensures in
     let cost = alone_costs cost_by to c.onward_by-tried.result (rw (guessed.from, guessed.to) at c.onward_by-tried.ensures) in
-    let bound : Onward = record { cost = c.onward_by-tried.result.cost + 1; next = to } in
+    let bound : OnwardSegment = record { cost = c.onward_by-tried.result.cost + 1; next = to } in
     let at = c.of-segment.ensures in
     let nearest = c.of-segment.result in
     let first = tried_by cost_by begin begin nearest.to _ bound bound c.cheaper_by-first.result (omega arith) at.to

@@ -5,7 +5,7 @@ use Rattle.std.specs.Prelude.{slice_index}
 use Rattle.least_walk.specs.Inner.MarkedPlaces.{IsPlace}
 use Rattle.least_walk.specs.Inner.Suffix.{IsLeastCost}
 use Rattle.least_walk.proofs.Places.{place_at_start}
-use Rattle.polygon_search.specs.Inner.Bounds.{bound_at}
+use Rattle.polygon_search.specs.Inner.VertexBounds.{bound_at}
 use Rattle.polygon_search.specs.Inner.Lasts.{IsUpToLast}
 use Rattle.polygon_search.specs.Inner.Search.{counts_of, slot_of}
 use Rattle.polygon_search.specs.Inner.Within.{AreKeptWithin, HasNextsWithin, IsLeastRest}

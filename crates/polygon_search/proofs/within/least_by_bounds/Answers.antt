@@ -2,7 +2,7 @@ use Rattle.std.proofs.Common.{◌≡◌, ℕ, ◌+◌, ◌-◌, ◌<◌, ◌≤�
 use Rattle.std.specs.Prelude.{slice_index}
 use Rattle.least_walk.proofs.Going.{fewest_below}
 use Rattle.least_walk.proofs.Lists.{whole}
-use Rattle.polygon_search.specs.Inner.Bounds.{AreBounds}
+use Rattle.polygon_search.specs.Inner.VertexBounds.{AreBounds}
 use Rattle.polygon_search.specs.Inner.Lasts.{IsUpToLast}
 use Rattle.polygon_search.specs.Inner.Within.{HasNextsWithin}
 use Rattle.polygon_search.specs.Polygon.{penalty_of}

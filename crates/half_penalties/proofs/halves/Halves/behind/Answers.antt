@@ -1,7 +1,7 @@
 use Rattle.std.proofs.Common.{◌≡◌, ℕ, ◌+◌, ◌-◌, sym, subst, arith}
 use Rattle.pt_core.proofs.Sizes.{back}
 use Rattle.half_penalties.specs.Inner.Products.{AreHalfSums}
-use Rattle.half_penalties.specs.HalfPenalties.{IsHalfBound}
+use Rattle.half_penalties.specs.Inner.HalfPenalties.{IsHalfBound}
 use Rattle.half_penalties.proofs.Sums.{are_sums, half_bound, zero_half}
 use Rattle.half_penalties.proofs.halves.Halves.behind.Goals as goal
 

@@ -1,7 +1,7 @@
 use Rattle.std.proofs.Common.{ap, ◌∙◌, arith}
 use Rattle.pt_core.proofs.Sizes.{back}
 use Rattle.prefix_moments.specs.Sums.{rightward_of, above_of}
-use Rattle.half_penalties.specs.HalfPenalties.{GoesOneWay}
+use Rattle.half_penalties.specs.Inner.HalfPenalties.{GoesOneWay}
 use Rattle.half_penalties.proofs.OneWay.{neither_way, parts_go_one_way}
 use Rattle.half_penalties.proofs.halves.Halves.between.Goals as goal
 

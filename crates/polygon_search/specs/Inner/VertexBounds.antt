@@ -12,7 +12,7 @@ abbrev pub bound_at : List Bound → ℕ → Bound
 bound_at bounds k = slice_index_or bounds k no_bound
 
 -- the windows of a path begin and end at these points
-pub record AreWindows (size : ℕ) (lasts begins farthest : List ℕ) : Type 0 where
+pub record AreWindowBegins (size : ℕ) (lasts begins farthest : List ℕ) : Type 0 where
   pub ends : AreWindowEnds size lasts farthest
   pub count : length begins ≡ length farthest
   pub each : (window : ℕ) → window < length begins → BeginsWindow size (counts_of size lasts) window (slice_index begins window)
@@ -24,7 +24,7 @@ pub record IsInWindow (begins farthest : List ℕ) (window k : ℕ) : Type 0 whe
 
 -- what is known of two vertices that a segment of this cost joins: who comes to the second through it has paid as much
 -- as the second one's floor, and what the first and the second add to it isn't more than it costs
-pub record IsJoined (cost : ℕ) (from to : Bound) : Type 0 where
+pub record IsPairBounded (cost : ℕ) (from to : Bound) : Type 0 where
   pub floor : to.floor ≤ from.floor + cost
   pub halves : from.ahead + to.behind ≤ cost
 
@@ -34,7 +34,7 @@ pub record AreBoundsOf (lasts begins farthest : List ℕ) (cost : ℕ → ℕ �
   pub small : (k : ℕ) → (bound_at bounds k).floor < 2 ^ 56
   pub joined : (window i j : ℕ) → window < windows → IsInWindow begins farthest window i
       → slice_index begins (window + 1) ≤ j → j ≤ slice_index lasts i
-      → IsJoined (cost i j) (bound_at bounds i) (bound_at bounds j)
+      → IsPairBounded (cost i j) (bound_at bounds i) (bound_at bounds j)
 
 -- and of all segments between windows: none leads beyond the last one
 abbrev pub AreBounds : List ℕ → List ℕ → List ℕ → (ℕ → ℕ → ℕ) → List Bound → Type 0
