@@ -141,7 +141,7 @@ module _ (size : ℕ) (is_allowed : ℕ → ℕ → Type 0) where
         costs = refl;
       },
       sym least.costs ∙ ap (λ rest. total_cost cost (i ∷ rest)) (same_least i least.rest (j ∷ next.rest) least.is_least next.is_least)
-      ∙ total_cost-cons cost i j next.rest,
+          ∙ total_cost-cons cost i j next.rest,
     )
 
     -- the step to j keeps to the fewest; of all such steps it is the cheapest, and of several the shortest

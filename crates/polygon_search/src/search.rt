@@ -376,7 +376,12 @@ fn cheapest_by_guess(
 
 /// This segment, and what the polygon costs from it on.
 #[inline(always)]
-fn onward_by(segments: &Segments, segment: &Growing, costs: &[u64], roots: &mut Roots) -> OnwardSegment
+fn onward_by(
+    segments: &Segments,
+    segment: &Growing,
+    costs: &[u64],
+    roots: &mut Roots,
+) -> OnwardSegment
     requires segment { segment.now.moments.now ≡ segments.now.moments.now }
     requires reached { segment.now.to ≤ slice_index segments.now.lasts.items segment.now.from }
     requires slots { IsPowerOfTwo (length costs.now) }
