@@ -33,7 +33,7 @@ use std::alloc::Global;
 const WIDE: u32 = 12;
 
 /// Where so many costs are kept, windows may be so wide that bounds are worth their price.
-const BENDING: usize = 1 << 8;
+const BENDING: usize = 1 << 9;
 
 /// A segment to go on by.
 //
@@ -306,6 +306,7 @@ pub(crate) fn nearest_from<'a>(segments: &Segments<'a>, from: u32, begin: u32) -
 //
 // A window is mostly narrow: from the nearest point on, one segment grows from point to point. The walk's end is a window
 // of its own, so nothing that is said of laps is asked later.
+#[inline(always)]
 pub(crate) fn cheapest_from(
     segments: &Segments,
     nearest: Receding,
