@@ -1,4 +1,4 @@
--- The windows of a path, by where each of them begins and ends.
+-- The windows of a path as a search within a limit knows them, by how far segments reach.
 use Rattle.std.proofs.Common.{◌≡◌, ℕ, ◌+◌, ◌-◌, ◌<◌, ◌≤◌, List, length, subst, inl, inr, arith}
 use Rattle.std.proofs.lemmas.Bool.{cases_lt}
 use Rattle.std.specs.Prelude.{slice_index}
@@ -6,10 +6,10 @@ use Rattle.least_walk.specs.Inner.Suffix.{IsFewestFrom}
 use Rattle.polygon_search.specs.Inner.VertexBounds.{AreWindowBegins}
 use Rattle.polygon_search.specs.Inner.Lasts.{AreRising, IsUpToLast, LeadsOn}
 use Rattle.polygon_search.specs.Inner.Search.{AreWindowEnds, counts_of}
-use Rattle.polygon_search.proofs.Counting.{counted, counts_fewest, last_keeps, rises, some_left}
+use Rattle.polygon_search.proofs.Counting.{AreCounted, counted, counts_fewest, some_left}
 use Rattle.polygon_search.proofs.Leasts.{IsBeforeWindow}
-use Rattle.polygon_search.proofs.Opening.{HasNextWindow, begins_at_start, far_below, vertex_here}
-use Rattle.polygon_search.proofs.Stepping.{windows}
+use Rattle.polygon_search.proofs.Opening.{HasNextWindow, vertex_here}
+use Rattle.polygon_search.proofs.Windowed.{begin_near, end_below, last_beyond, last_within, next_window}
 
 module _ (size : ℕ) (lasts begins farthest : List ℕ) (leads : (i : ℕ) → i < size → LeadsOn size i (slice_index lasts i)) (rising : AreRising size lasts)
     (are : AreWindowBegins size lasts begins farthest) (window : ℕ) (room : window + 1 < length farthest) where
@@ -19,59 +19,32 @@ module _ (size : ℕ) (lasts begins farthest : List ℕ) (leads : (i : ℕ) → 
   abbrev begin : ℕ
   begin = slice_index begins (window + 1)
 
-  -- each but the last one is before another
-  pub next_window : HasNextWindow size lasts (counts_of size lasts) farthest window begin
-  next_window = windows size lasts farthest window begin leads rising are.ends room (are.each (window + 1) (omega (arith, are.count)))
+  known : AreCounted size lasts (counts_of size lasts)
+  known = counted size lasts leads rising
 
-  pub end_below : far < size
-  end_below = far_below size lasts (counts_of size lasts) farthest window begin next_window
+  -- each but the last one is before another
+  pub is_before_window : HasNextWindow size lasts (counts_of size lasts) farthest window begin
+  is_before_window = next_window size lasts begins farthest known are window room
+
+  pub ends_before_end : far < size
+  ends_before_end = end_below size lasts begins farthest known are window room
 
   -- it begins before it ends
   pub begins_before : slice_index begins window ≤ far
-  begins_before =
-      let opens = are.each window (omega (arith, are.count)) in
-      elim (cases_lt far (slice_index begins window)) [
-        | inl before ↦ absurd (omega (
-          arith,
-          opens.none_before far before,
-          opens.left,
-          are.ends.left window (omega (arith, next_window.next)),
-        ))
-        | inr after ↦ after
-      ]
+  begins_before = begin_near size lasts begins farthest known are window (omega arith)
 
   -- the longest segments of all of its points reach the next one
   pub all_reach : (i : ℕ) → slice_index begins window ≤ i → i ≤ far → begin ≤ slice_index lasts i
-  all_reach i above near =
-      let counts = counts_of size lasts in
-      let known = counted size lasts leads rising in
-      let opens = are.each window (omega (arith, are.count)) in
-      let next = are.each (window + 1) (omega (arith, are.count)) in
-      let below : i < size = omega (arith, end_below) in
-      elim (cases_lt (slice_index lasts i) begin) [
-        | inl short ↦ absurd (omega (
-          arith,
-          next.none_before (slice_index lasts i) short,
-          last_keeps size lasts counts known i below,
-          known.falling (slice_index begins window) i (omega arith) above (omega arith),
-          opens.left,
-          next.left,
-        ))
-        | inr reached ↦ reached
-      ]
+  all_reach i above near = last_beyond size lasts begins farthest known are window room i (record { begin = above; end = near })
 
   -- and none of them reaches beyond it
-  pub none_beyond : (i : ℕ) → i ≤ far → slice_index lasts i ≤ slice_index farthest (window + 1)
-  none_beyond i near =
-      let e : i + (far - i) ≡ far = omega arith in
-      let rise : slice_index lasts i ≤ slice_index lasts far =
-      subst (λ n. slice_index lasts i ≤ slice_index lasts n) e (rises size lasts leads rising (far - i) i (omega (arith, end_below))) in
-      omega (arith, are.ends.onwards window (omega (arith, next_window.next)))
+  pub none_beyond : (i : ℕ) → slice_index begins window ≤ i → i ≤ far → slice_index lasts i ≤ slice_index farthest (window + 1)
+  none_beyond i above near = last_within size lasts begins farthest known are window room i (record { begin = above; end = near })
 
   -- all of them are vertices
   pub all_vertices : (i : ℕ) → slice_index begins window ≤ i → i ≤ far → IsBeforeWindow size lasts (counts_of size lasts) i begin
   all_vertices i above near =
-      vertex_here size lasts (counts_of size lasts) farthest window begin next_window i near (all_reach i above near)
+      vertex_here size lasts (counts_of size lasts) farthest window begin is_before_window i near (all_reach i above near)
 
 -- the last window is the end
 pub last_at_end : (size : ℕ) (lasts begins farthest : List ℕ) → ((i : ℕ) → i < size → LeadsOn size i (slice_index lasts i)) → AreRising size lasts
@@ -90,11 +63,6 @@ last_at_end size lasts begins farthest leads rising are window last =
       ))
       | inr end ↦ omega arith
     ]
-
--- and the first one begins at the start
-pub first_at_start : (size : ℕ) (lasts begins farthest : List ℕ) → AreWindowBegins size lasts begins farthest → slice_index begins 0 ≡ 0
-first_at_start size lasts begins farthest are =
-    begins_at_start size (counts_of size lasts) (slice_index begins 0) (are.each 0 (omega (arith, are.count, are.ends.count)))
 
 -- there are as many segments as windows, without the first
 pub windows_fewest : (size : ℕ) (lasts farthest : List ℕ) → ((i : ℕ) → i < size → LeadsOn size i (slice_index lasts i)) → AreRising size lasts

@@ -13,7 +13,8 @@ use Rattle.polygon_search.specs.Polygon.{penalty_of}
 use Rattle.polygon_search.proofs.Counting.{counted}
 use Rattle.polygon_search.proofs.Keeping.{kept_within}
 use Rattle.polygon_search.proofs.Slots.{kept_at_end, slot_below, some_slots}
-use Rattle.polygon_search.proofs.Windowing.{first_at_start, last_at_end}
+use Rattle.polygon_search.proofs.Windowed.{starts_first}
+use Rattle.polygon_search.proofs.Windowing.{last_at_end}
 use Rattle.polygon_search.proofs.within.fill_costs_within.Goals as goal
 
 -- from the end on nothing is left to pay
@@ -60,7 +61,7 @@ returns-clause-cost c = λ found.
     let lasts = s.lasts.items in
     let known = counted size lasts s.onwards s.rising in
     let none : c.loop-window.window ≡ 0 = omega arith in
-    let start = ap (slice_index c.args.begins.now) none ∙ first_at_start size lasts c.args.begins.now c.args.farthest.now c.requires.windows in
+    let start = ap (slice_index c.args.begins.now) none ∙ starts_first size lasts c.args.begins.now c.args.farthest.now (counted size lasts s.onwards s.rising) c.requires.windows (omega (arith, c.requires.windows.ends.count)) in
     let all = subst (λ n. AreKeptWithin size (IsUpToLast lasts) (penalty_of s.moments.now) c.args.bounds.now c.args.limit n c.loop-window.costs) start c.loop-window.invariant.costs in
     let place : IsPlace size (IsUpToLast lasts) 0 = (0, place_at_start size (IsUpToLast lasts) (counts_of size lasts) known.fewest) in
     let some : 0 < length c.loop-window.costs =
@@ -76,5 +77,5 @@ returns-clause-nexts c =
     let size = length s.moments.now in
     let lasts = s.lasts.items in
     let none : c.loop-window.window ≡ 0 = omega arith in
-    let start = ap (slice_index c.args.begins.now) none ∙ first_at_start size lasts c.args.begins.now c.args.farthest.now c.requires.windows in
+    let start = ap (slice_index c.args.begins.now) none ∙ starts_first size lasts c.args.begins.now c.args.farthest.now (counted size lasts s.onwards s.rising) c.requires.windows (omega (arith, c.requires.windows.ends.count)) in
     subst (λ n. HasNextsWithin size (IsUpToLast lasts) (penalty_of s.moments.now) c.args.bounds.now c.args.limit n c.loop-window.nexts) start c.loop-window.invariant.nexts

@@ -12,20 +12,20 @@ use Rattle.polygon_search.proofs.Opening.{far_before, none_between}
 use Rattle.polygon_search.proofs.Keeping.{kept_down}
 use Rattle.polygon_search.proofs.Narrowing.{kept_on, kept_small, rest_more}
 use Rattle.polygon_search.proofs.Stepping.{before_end_too}
-use Rattle.polygon_search.proofs.Windowing.{all_reach, all_vertices, begins_before, end_below, next_window, none_beyond}
+use Rattle.polygon_search.proofs.Windowing.{all_reach, all_vertices, begins_before, ends_before_end, is_before_window, none_beyond}
 use Rattle.polygon_search.proofs.within.fill_window_within.Goals as goal
 
 -- the window ends before the path does, and before the next one begins
 pub nearest_from-nearest-requires-clause-from : goal.nearest_from-nearest-requires-clause-from
 nearest_from-nearest-requires-clause-from c =
     let s = c.args.segments.now in
-    end_below (length s.moments.now) s.lasts.items c.args.begins.now c.args.farthest.now s.onwards s.rising c.requires.windows c.args.window c.requires.window
+    ends_before_end (length s.moments.now) s.lasts.items c.args.begins.now c.args.farthest.now s.onwards s.rising c.requires.windows c.args.window c.requires.window
 
 pub nearest_from-nearest-requires-clause-onwards : goal.nearest_from-nearest-requires-clause-onwards
 nearest_from-nearest-requires-clause-onwards c =
     let s = c.args.segments.now in
     far_before (length s.moments.now) s.lasts.items (counts_of (length s.moments.now) s.lasts.items) c.args.farthest.now c.args.window _
-    (next_window (length s.moments.now) s.lasts.items c.args.begins.now c.args.farthest.now s.onwards s.rising c.requires.windows c.args.window c.requires.window)
+    (is_before_window (length s.moments.now) s.lasts.items c.args.begins.now c.args.farthest.now s.onwards s.rising c.requires.windows c.args.window c.requires.window)
 
 -- no point after the farthest one and before the next window is a vertex
 pub loop-nearest-init : goal.loop-nearest-init
@@ -35,7 +35,7 @@ loop-nearest-init c =
     let lasts = s.lasts.items in
     let begins = c.args.begins.now in
     let farthest = c.args.farthest.now in
-    let w = next_window size lasts begins farthest s.onwards s.rising c.requires.windows c.args.window c.requires.window in
+    let w = is_before_window size lasts begins farthest s.onwards s.rising c.requires.windows c.args.window c.requires.window in
     let far : ℕ = slice_index farthest c.args.window in
     let begin : ℕ = slice_index begins (c.args.window + 1) in
     let before = far_before size lasts (counts_of size lasts) farthest c.args.window begin w in
@@ -83,7 +83,7 @@ onward_within-onward-requires-clause-lap c = λ before.
     let so_far = c.loop-nearest.invariant in
     let i : ℕ = c.loop-nearest.nearest.from in
     before_end_too size lasts (counts_of size lasts) farthest c.args.window (slice_index begins (c.args.window + 1))
-    (next_window size lasts begins farthest s.onwards s.rising c.requires.windows c.args.window c.requires.window) i so_far.near
+    (is_before_window size lasts begins farthest s.onwards s.rising c.requires.windows c.args.window c.requires.window) i so_far.near
     (all_reach size lasts begins farthest s.onwards s.rising c.requires.windows c.args.window c.requires.window i so_far.above so_far.near)
     (omega (arith, so_far.to))
 
@@ -109,7 +109,7 @@ returns-then-nearest-begins-clause-costs c =
     let so_far = c.loop-nearest.invariant in
     let i : ℕ = c.loop-nearest.nearest.from in
     let here = all_vertices size lasts c.args.begins.now c.args.farthest.now s.onwards s.rising c.requires.windows c.args.window c.requires.window i so_far.above so_far.near in
-    let reach = none_beyond size lasts c.args.begins.now c.args.farthest.now s.onwards s.rising c.requires.windows c.args.window c.requires.window i so_far.near in
+    let reach = none_beyond size lasts c.args.begins.now c.args.farthest.now s.onwards s.rising c.requires.windows c.args.window c.requires.window i so_far.above so_far.near in
     let stepped = kept_on size lasts (counts_of size lasts) (counted size lasts s.onwards s.rising) (penalty_of s.moments.now) (record { few = s.few; each = s.cheap })
     c.args.bounds.now c.args.limit c.loop-nearest.costs i (slice_index c.args.begins.now (c.args.window + 1)) here
     (subst (AreEnoughSlots size lasts) (sym c.loop-nearest.auto.costs) c.requires.slots) so_far.costs
@@ -129,7 +129,7 @@ returns-then-nearest-begins-clause-nexts c =
     let so_far = c.loop-nearest.invariant in
     let i : ℕ = c.loop-nearest.nearest.from in
     let here = all_vertices size lasts c.args.begins.now c.args.farthest.now s.onwards s.rising c.requires.windows c.args.window c.requires.window i so_far.above so_far.near in
-    let reach = none_beyond size lasts c.args.begins.now c.args.farthest.now s.onwards s.rising c.requires.windows c.args.window c.requires.window i so_far.near in
+    let reach = none_beyond size lasts c.args.begins.now c.args.farthest.now s.onwards s.rising c.requires.windows c.args.window c.requires.window i so_far.above so_far.near in
     let stepped = kept_on size lasts (counts_of size lasts) (counted size lasts s.onwards s.rising) (penalty_of s.moments.now) (record { few = s.few; each = s.cheap })
     c.args.bounds.now c.args.limit c.loop-nearest.costs i (slice_index c.args.begins.now (c.args.window + 1)) here
     (subst (AreEnoughSlots size lasts) (sym c.loop-nearest.auto.costs) c.requires.slots) so_far.costs
@@ -149,7 +149,7 @@ returns-then-nearest-begins-clause-least_rest c =
     let so_far = c.loop-nearest.invariant in
     let i : ℕ = c.loop-nearest.nearest.from in
     let here = all_vertices size lasts c.args.begins.now c.args.farthest.now s.onwards s.rising c.requires.windows c.args.window c.requires.window i so_far.above so_far.near in
-    let reach = none_beyond size lasts c.args.begins.now c.args.farthest.now s.onwards s.rising c.requires.windows c.args.window c.requires.window i so_far.near in
+    let reach = none_beyond size lasts c.args.begins.now c.args.farthest.now s.onwards s.rising c.requires.windows c.args.window c.requires.window i so_far.above so_far.near in
     let stepped = kept_on size lasts (counts_of size lasts) (counted size lasts s.onwards s.rising) (penalty_of s.moments.now) (record { few = s.few; each = s.cheap })
     c.args.bounds.now c.args.limit c.loop-nearest.costs i (slice_index c.args.begins.now (c.args.window + 1)) here
     (subst (AreEnoughSlots size lasts) (sym c.loop-nearest.auto.costs) c.requires.slots) so_far.costs
@@ -203,7 +203,7 @@ loop-nearest-preserved c =
     let so_far = c.loop-nearest.invariant in
     let i : ℕ = c.loop-nearest.nearest.from in
     let here = all_vertices size lasts c.args.begins.now c.args.farthest.now s.onwards s.rising c.requires.windows c.args.window c.requires.window i so_far.above so_far.near in
-    let reach = none_beyond size lasts c.args.begins.now c.args.farthest.now s.onwards s.rising c.requires.windows c.args.window c.requires.window i so_far.near in
+    let reach = none_beyond size lasts c.args.begins.now c.args.farthest.now s.onwards s.rising c.requires.windows c.args.window c.requires.window i so_far.above so_far.near in
     let stepped = kept_on size lasts (counts_of size lasts) (counted size lasts s.onwards s.rising) (penalty_of s.moments.now) (record { few = s.few; each = s.cheap })
     c.args.bounds.now c.args.limit c.loop-nearest.costs i (slice_index c.args.begins.now (c.args.window + 1)) here
     (subst (AreEnoughSlots size lasts) (sym c.loop-nearest.auto.costs) c.requires.slots) so_far.costs
