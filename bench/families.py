@@ -100,6 +100,11 @@ def bends(side):
     return side, side, rows
 
 
+def steep(side):
+    """lines of slope 0.9907 that bend by 1.4 pixels: the dearest by climbing over slopes and bends"""
+    return lines(side, lambda x: 0.99067 * x + 5.6626 * x * (side - x) / side ** 2 + 0.1119)
+
+
 def rings(side):
     """rings round one middle, 2 pixels black and 2 white"""
     middle, most = side / 2 - 0.5, side / 2 - 2
@@ -164,7 +169,7 @@ def noise(side):
 
 
 FAMILIES = {it.__name__: it for it in (
-    diagonal, diagonal3, diagonal8, diagonal1, diamonds, slope2, slope32, golden, arcs, sags, cubics, bends, rings, stadium_bent, nest, holes, checker,
+    diagonal, diagonal3, diagonal8, diagonal1, diamonds, slope2, slope32, golden, arcs, sags, cubics, bends, steep, rings, stadium_bent, nest, holes, checker,
     dots, noise)}
 
 
