@@ -1,8 +1,8 @@
 -- How two windows are joined: what was known of earlier ones stays.
-use Rattle.std.proofs.Common.{◌≡◌, ℕ, ◌+◌, ◌-◌, ◌<◌, ◌≤◌, ◌^◌, List, length, replicate, set, refl, sym, ◌∙◌, ap, subst, get_or-set_same, inl, inr, arith}
+use Rattle.std.proofs.Common.{◌≡◌, ℕ, ◌+◌, ◌<◌, ◌≤◌, ◌^◌, List, length, replicate, set, refl, sym, ◌∙◌, ap, subst, get_or-set_same, inl, inr, arith}
 use Rattle.std.proofs.lemmas.Bool.{cases_eq, cases_lt}
 use Rattle.std.proofs.lemmas.List.{get_or-replicate, get_or-set_other, get_or_past, length-replicate, length-set}
-use Rattle.std.specs.Prelude.{slice_index, ◌⊎◌}
+use Rattle.std.specs.Prelude.{slice_index}
 use Rattle.polygon_search.specs.declared.bounds.Bound.{Bound}
 use Rattle.polygon_search.specs.Inner.VertexBounds.{AreBoundsOf, AreWindowBegins, IsInWindow, IsPairBounded, bound_at, no_bound}
 use Rattle.polygon_search.specs.Inner.Joining.{AreBlank, AreChanged}

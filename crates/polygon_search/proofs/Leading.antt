@@ -1,5 +1,5 @@
 -- The least walk, by a list that leads along it.
-use Rattle.std.proofs.Common.{◌≡◌, ℕ, ◌+◌, ◌-◌, ◌<◌, ◌≤◌, List, ◌∷◌, length, refl, inl, inr, arith}
+use Rattle.std.proofs.Common.{ℕ, ◌+◌, ◌-◌, ◌<◌, ◌≤◌, List, ◌∷◌, refl, inl, inr, arith}
 use Rattle.std.proofs.lemmas.Bool.{cases_lt}
 use Rattle.std.specs.Prelude.{slice_index}
 use Rattle.least_walk.specs.LeastWalk.{total_cost}
@@ -9,7 +9,7 @@ use Rattle.least_walk.proofs.Going.{goes_below}
 use Rattle.least_walk.proofs.Onward.{least_cost_is_one, least_cost_step, length-least}
 use Rattle.least_walk.proofs.Written.{IsWritten, written_place}
 use Rattle.polygon_search.specs.declared.bounds.Bound.{Bound}
-use Rattle.polygon_search.specs.Inner.VertexBounds.{AreBounds, AreWindowBegins, IsInWindow, bound_at}
+use Rattle.polygon_search.specs.Inner.VertexBounds.{AreBounds, AreWindowBegins, bound_at}
 use Rattle.polygon_search.specs.Inner.Lasts.{AreRising, IsUpToLast, LeadsOn}
 use Rattle.polygon_search.specs.Inner.Search.{LeadsAlong, counts_of}
 use Rattle.polygon_search.specs.Inner.Within.{HasNextsWithin}

@@ -11,6 +11,7 @@ pub mod Leasts
 pub mod Limits
 pub mod Narrowing
 pub mod Opening
+pub mod Passing
 pub mod Placing
 pub mod Reaching
 pub mod Rising
@@ -20,5 +21,4 @@ pub mod Small
 pub mod Stepping
 pub mod Vertices
 pub mod Windowed
-pub mod Windowing
 mod Examples

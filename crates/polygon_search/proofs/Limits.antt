@@ -93,6 +93,18 @@ module _ (cost whole slots : ℕ → ℕ) (bounds : ℕ → Bound) (bound : Boun
     ))
   ]
 
+  -- nor is it, where all that the slots have is beyond
+  none_cheap : ((k : ℕ) → begin ≤ k → k < end → limit < bound.floor + (cost k + slots k)) → limit < bound.floor + best.cost
+  none_cheap above = elim (cases_lt limit (bound.floor + best.cost)) [
+    | inl beyond ↦ beyond
+    | inr within ↦ absurd (omega (
+      arith,
+      is.cost,
+      above best.next is.above is.below,
+      are.exact best.next is.above is.below (next_within within),
+    ))
+  ]
+
   module _ (onward : OnwardSegment) (by_slots : HasCheapest (λ k. cost k + slots k) begin end onward) where
     least_most : best.cost ≤ onward.cost
     least_most = omega (
@@ -142,10 +154,10 @@ module _ (cost whole slots : ℕ → ℕ) (bounds : ℕ → Bound) (bound : Boun
     leads = λ within. absurd (omega (arith, not_within above));
     small = omega arith;
   }
-  onward_is onward small low (too_dear cheapest by_slots above far) = record {
+  onward_is onward small low (too_dear above far) = record {
     enough = omega arith;
-    exact = λ within. absurd (omega (arith, same_cost cheapest by_slots within));
-    leads = λ within. absurd (omega (arith, same_cost cheapest by_slots within));
+    exact = λ within. absurd (omega (arith, none_cheap above, within));
+    leads = λ within. absurd (omega (arith, none_cheap above, within));
     small = omega arith;
   }
   onward_is onward small low (kept by_slots within) = record {

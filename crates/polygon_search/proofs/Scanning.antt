@@ -88,29 +88,60 @@ module _ (cost_by : ℕ → ℕ) where
         first = is.first;
       })
 
-  -- all of them, where one of them is cheaper than the bound
-  pub below_bound : (begin to end : ℕ) (bound first onward : OnwardSegment) → begin ≤ to → to < end → cost_by to < bound.cost
-      → IsCheaperIn cost_by begin (begin + 1) bound first → IsCheaperIn cost_by (begin + 1) end first onward
-      → HasCheapest cost_by begin end onward
-  below_bound begin to end bound first onward near room cheap (found lower is) beyond =
-      with_beyond begin end first onward (omega arith) is beyond
-  below_bound begin to end bound first onward near room cheap (none same dearer) (found lower is) = record {
-    above = omega (arith, is.above);
-    below = is.below;
-    cost = is.cost;
-    cheapest = λ k above below. elim (cases_lt k (begin + 1)) [
-      | inl here ↦ omega (arith, dearer k above here, ap (λ (o : OnwardSegment). o.cost) same)
-      | inr far ↦ is.cheapest k far below
-    ];
-    first = λ k above below. elim (cases_lt k (begin + 1)) [
-      | inl here ↦ omega (arith, dearer k above here, ap (λ (o : OnwardSegment). o.cost) same)
-      | inr far ↦ is.first k far below
-    ];
-  }
-  below_bound begin to end bound first onward near room cheap (none same dearer) (none as_first others) = elim (cases_lt to (begin + 1)) [
-    | inl here ↦ absurd (omega (arith, dearer to near here))
-    | inr far ↦ absurd (omega (arith, others to far room, ap (λ (o : OnwardSegment). o.cost) same))
-  ]
+  -- what was found is the cheapest of all of them, where one of them is cheaper than the bound
+  pub is_cheapest : (begin to end : ℕ) (bound onward : OnwardSegment) → begin ≤ to → to < end → cost_by to < bound.cost
+      → IsCheaperIn cost_by begin end bound onward → HasCheapest cost_by begin end onward
+  is_cheapest begin to end bound onward near room cheap (found lower is) = is
+  is_cheapest begin to end bound onward near room cheap (none same dearer) = absurd (omega (arith, dearer to near room))
+
+  -- the same, where the bound is at most what one of them costs or another number, and one more
+  pub is_cheapest_up_to : (begin to end most : ℕ) (bound onward : OnwardSegment) → begin ≤ to → to < end
+      → (bound.cost ≤ most → cost_by to < bound.cost) → onward.cost ≤ most
+      → IsCheaperIn cost_by begin end bound onward → HasCheapest cost_by begin end onward
+  is_cheapest_up_to begin to end most bound onward near room cheap low (found lower is) = is
+  is_cheapest_up_to begin to end most bound onward near room cheap low (none same dearer) =
+      absurd (omega (arith, dearer to near room, cheap (omega (arith, ap (λ (o : OnwardSegment). o.cost) same))))
+
+  -- and all cost more than that number, where what was found does
+  pub are_dear : (begin end most : ℕ) (bound onward : OnwardSegment) → bound.cost ≤ most + 1 → most < onward.cost
+      → IsCheaperIn cost_by begin end bound onward → (k : ℕ) → begin ≤ k → k < end → most < cost_by k
+  are_dear begin end most bound onward low dear (found lower is) k above below = absurd (omega arith)
+  are_dear begin end most bound onward low dear (none same dearer) k above below = omega (arith, dearer k above below, ap (λ (o : OnwardSegment). o.cost) same)
+
+  -- those up to a point, and those from there on
+  pub tried_on : (begin middle end : ℕ) (best so_far onward : OnwardSegment) → begin ≤ middle → middle ≤ end
+      → IsCheaperIn cost_by begin middle best so_far → IsCheaperIn cost_by middle end so_far onward
+      → IsCheaperIn cost_by begin end best onward
+  tried_on begin middle end best so_far onward near room first (found lower is) =
+      found (omega (arith, so_far_most begin middle best so_far first)) (record {
+        above = omega (arith, is.above);
+        below = is.below;
+        cost = is.cost;
+        cheapest = λ k above below. elim (cases_lt k middle) [
+          | inl before ↦ omega (arith, so_far_least begin middle best so_far first k above before)
+          | inr beyond ↦ is.cheapest k beyond below
+        ];
+        first = λ k above below. elim (cases_lt k middle) [
+          | inl before ↦ omega (arith, so_far_least begin middle best so_far first k above before)
+          | inr beyond ↦ is.first k beyond below
+        ];
+      })
+  tried_on begin middle end best so_far onward near room (found lower is) (none same dearer) =
+      subst (IsCheaperIn cost_by begin end best) (sym same) (found lower (record {
+        above = is.above;
+        below = omega (arith, is.below);
+        cost = is.cost;
+        cheapest = λ k above below. elim (cases_lt k middle) [
+          | inl before ↦ is.cheapest k above before
+          | inr beyond ↦ dearer k beyond below
+        ];
+        first = is.first;
+      }))
+  tried_on begin middle end best so_far onward near room (none as_best others) (none same dearer) =
+      subst (IsCheaperIn cost_by begin end best) (sym same) (none as_best (λ k above below. elim (cases_lt k middle) [
+        | inl before ↦ others k above before
+        | inr beyond ↦ omega (arith, dearer k beyond below, ap (λ (o : OnwardSegment). o.cost) as_best)
+      ]))
 
   -- one alone
   pub alone : (to : ℕ) (onward : OnwardSegment) → onward.cost ≡ cost_by to → onward.next ≡ to → HasCheapest cost_by to (to + 1) onward

@@ -1,4 +1,5 @@
 -- What inner contracts alone speak of: no promise rests on it.
+pub mod BlockLeasts
 pub mod Joining
 pub mod Lasts
 pub mod OnePenalty

@@ -2,9 +2,11 @@
 //!
 //! What calls it stands above, in `polygon_optimal`. Here are the segments of a path as steps (`segments`), and the windows
 //! in which vertices stand (`windows`). Two searches go through these from the end. One looks at all segments between
-//! windows (`search`). The other stays within a limit (`within`), and leaves vertices out by bounds (`bounds`).
+//! windows (`search`). The other stays within a limit (`within`): it leaves out vertices by bounds (`bounds`), and segments
+//! by blocks of a window (`blocks`).
 #![tactic(auto)]
 
+mod blocks;
 mod bounds;
 mod limit;
 pub mod room;

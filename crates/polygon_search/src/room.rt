@@ -22,6 +22,8 @@ pub struct SearchRoom {
     pub farthest: Vec<u32>,
     pub(crate) begins: Vec<u32>,
     pub(crate) bounds: Vec<Bound>,
+    pub(crate) rears: Vec<u64>,
+    pub(crate) leasts: Vec<u64>,
     /// The list of the sums.
     moments: MomentsRoom,
 }
@@ -35,6 +37,8 @@ impl SearchRoom {
             farthest: Vec::new(alloc),
             begins: Vec::new(alloc),
             bounds: Vec::new(alloc),
+            rears: Vec::new(alloc),
+            leasts: Vec::new(alloc),
             moments: MomentsRoom::new(alloc),
         }
     }

@@ -33,7 +33,7 @@ use std::alloc::Global;
 const WIDE: u32 = 12;
 
 /// Where so many costs are kept, windows may be so wide that bounds are worth their price.
-const BENDING: usize = 1 << 9;
+const BENDING: usize = 1 << 8;
 
 /// A segment to go on by.
 //
@@ -98,6 +98,8 @@ pub fn least_by_windows(
         &mut room.nexts,
         &mut room.begins,
         &mut room.bounds,
+        &mut room.rears,
+        &mut room.leasts,
         roots,
     )?;
     if let Some(walk) = found {
@@ -377,7 +379,7 @@ fn cheapest_by_guess(
 
 /// This segment, and what the polygon costs from it on.
 #[inline(always)]
-fn onward_by(
+pub(crate) fn onward_by(
     segments: &Segments,
     segment: &Growing,
     costs: &[u64],
@@ -433,7 +435,7 @@ fn cheaper_beyond(
 //
 // It isn't inlined, so the loop has the registers for itself.
 #[inline(never)]
-fn cheaper_far_beyond(
+pub(crate) fn cheaper_far_beyond(
     segments: &Segments,
     segment: &Growing,
     stop: u32,
@@ -457,7 +459,7 @@ fn cheaper_far_beyond(
 //
 // Where the rest alone isn't cheaper, the segment isn't looked at.
 #[inline(always)]
-fn cheaper_by(
+pub(crate) fn cheaper_by(
     segments: &Segments,
     segment: &Growing,
     rest: u64,

@@ -7,7 +7,7 @@ use crate::segments::Segments;
 use pt_core::NoMemory;
 
 /// So many segments for each point of the path, or more, and bounds are worth their price.
-const WORTH: u64 = 96;
+const WORTH: u64 = 64;
 
 /// Writes down the first points of the windows that end with these.
 //

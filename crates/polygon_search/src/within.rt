@@ -7,17 +7,20 @@
 //!
 //! If the cost that is found is within the limit, it is the least: the best polygon costs no more, so none of its
 //! vertices counted as far.
-ghost use Rattle.std.specs.Prelude.{◌≡◌, ℕ, ◌+◌, ◌-◌, ◌<◌, ◌≤◌, ◌^◌, length, slice_index, IfOk, IfSome};
+ghost use Rattle.std.specs.Prelude.{◌≡◌, ℕ, ◌+◌, ◌-◌, ◌*◌, ◌<◌, ◌≤◌, ◌^◌, length, slice_index, IfOk, IfSome};
 ghost use Rattle.std.specs.Int.{IsPowerOfTwo};
 ghost use Rattle.pt_core.specs.ClosedWalk.{IsClosedWalk};
 ghost use Rattle.least_walk.specs.Inner.Suffix.{IsLeastCost};
 ghost use Rattle.polygon_search.specs.Inner.Lasts.{IsUpToLast};
 ghost use Rattle.polygon_search.specs.Polygon.{penalty_of};
 ghost use Rattle.least_walk.specs.LeastWalk.{IsLeast, walk_from, step_count, total_cost};
+ghost use Rattle.polygon_search.specs.declared.blocks.TheConstants.{BLOCK};
+ghost use Rattle.polygon_search.specs.Inner.BlockLeasts.{AreLeasts};
 ghost use Rattle.polygon_search.specs.Inner.Search.{AreEnoughSlots, AreWindowEnds, slot_of};
 ghost use Rattle.polygon_search.specs.Inner.VertexBounds.{AreBounds, AreWindowBegins};
 ghost use Rattle.polygon_search.specs.Inner.Within.{AreKeptWithin, HasNextsWithin, IsLeastRest, IsOnwardBy};
 
+use crate::blocks::{cheapest_by_blocks, fill_leasts};
 use crate::bounds::{Bound, FAR, fill_bounds};
 use crate::limit::likely_limit;
 use crate::room::make_places;
@@ -28,6 +31,9 @@ use least_walk::Walk;
 use prefix_moments::{Receding, Roots};
 use pt_core::NoMemory;
 use std::alloc::Global;
+
+/// A window that goes so far beyond its nearest point is looked at by blocks.
+const BROAD: u32 = 64;
 
 /// The same as `least_by_windows` finds, by bounds, where these are worth their price. Lists are given to it that have room for
 /// the costs that are kept, and for where each point's best way on leads.
@@ -40,6 +46,8 @@ pub(crate) fn least_by_bounds(
     nexts: &mut [u32],
     begins: &mut Vec<u32>,
     bounds: &mut Vec<Bound>,
+    rears: &mut Vec<u64>,
+    leasts: &mut Vec<u64>,
     roots: &mut Roots,
 ) -> Result<Option<Walk>, NoMemory>
     requires closed { IsClosedWalk segments.now.moments.now }
@@ -61,10 +69,12 @@ pub(crate) fn least_by_bounds(
         return Ok(None);
     }
     make_places(bounds, segments.lasts.len() + 1, Bound::none())?;
+    make_places(rears, segments.lasts.len() + 1, 0u64)?;
+    make_places(leasts, costs.len(), 0u64)?;
     fill_bounds(segments, begins, farthest, bounds, roots);
-    let limit = likely_limit(segments, begins, farthest, bounds).min(FAR);
+    let limit = likely_limit(segments, begins, farthest, bounds, rears).min(FAR);
     fill_costs_within(
-        segments, begins, farthest, bounds, limit, costs, nexts, roots,
+        segments, begins, farthest, bounds, limit, leasts, costs, nexts, roots,
     );
     if limit < costs[0] {
         return Ok(None);
@@ -81,6 +91,7 @@ pub(crate) fn fill_costs_within(
     farthest: &[u32],
     bounds: &[Bound],
     limit: u64,
+    leasts: &mut [u64],
     costs: &mut [u64],
     nexts: &mut [u32],
     roots: &mut Roots,
@@ -88,6 +99,7 @@ pub(crate) fn fill_costs_within(
     requires limit { limit < 2 ^ 56 }
     requires slots { AreEnoughSlots (length segments.now.moments.now) segments.now.lasts.items (length costs.old) }
     requires next_places { length segments.now.moments.now + 1 ≤ length nexts.old }
+    requires blocks { length costs.old ≤ length leasts.old }
     requires bound_places { length segments.now.moments.now + 1 ≤ length bounds.now }
     requires windows { AreWindowBegins (length segments.now.moments.now) segments.now.lasts.items begins.now farthest.now }
     requires bounds { AreBounds segments.now.lasts.items begins.now farthest.now
@@ -103,7 +115,7 @@ pub(crate) fn fill_costs_within(
     let mut rest = left_by(bounds[size], 0);
     for window in (0..farthest.len() - 1).rev() {
         rest = fill_window_within(
-            segments, begins, farthest, bounds, window, limit, rest, costs, nexts, roots,
+            segments, begins, farthest, bounds, window, limit, rest, leasts, costs, nexts, roots,
         );
     }
 }
@@ -118,6 +130,7 @@ fn fill_window_within(
     window: usize,
     limit: u64,
     rest: u64,
+    leasts: &mut [u64],
     costs: &mut [u64],
     nexts: &mut [u32],
     roots: &mut Roots,
@@ -126,6 +139,7 @@ fn fill_window_within(
     requires rest { rest < 2 ^ 57 }
     requires slots { AreEnoughSlots (length segments.now.moments.now) segments.now.lasts.items (length costs.old) }
     requires next_places { length segments.now.moments.now + 1 ≤ length nexts.old }
+    requires blocks { length costs.old ≤ length leasts.old }
     requires bound_places { length segments.now.moments.now + 1 ≤ length bounds.now }
     requires windows { AreWindowBegins (length segments.now.moments.now) segments.now.lasts.items begins.now farthest.now }
     requires bounds { AreBounds segments.now.lasts.items begins.now farthest.now
@@ -139,6 +153,7 @@ fn fill_window_within(
     requires later_nexts { HasNextsWithin (length segments.now.moments.now) (IsUpToLast segments.now.lasts.items)
         (penalty_of segments.now.moments.now) bounds.now limit (slice_index begins.now (window + 1)) nexts.old }
     ensures next_places { length nexts.new ≡ length nexts.old }
+    ensures blocks { length leasts.new ≡ length leasts.old }
     ensures rest { result < 2 ^ 57 }
     ensures least_rest { IsLeastRest (length segments.now.moments.now) (IsUpToLast segments.now.lasts.items)
         (penalty_of segments.now.moments.now) bounds.now limit
@@ -148,13 +163,18 @@ fn fill_window_within(
     ensures nexts { HasNextsWithin (length segments.now.moments.now) (IsUpToLast segments.now.lasts.items)
         (penalty_of segments.now.moments.now) bounds.now limit (slice_index begins.now window) nexts.new }
 {
+    let begin = begins[window + 1];
+    fill_leasts(begin, farthest[window + 1], bounds, costs, leasts);
     let mut least = FAR + (1 << 32);
-    let mut nearest = nearest_from(segments, farthest[window], begins[window + 1]);
+    let mut nearest = nearest_from(segments, farthest[window], begin);
     loop {
         let first = nearest.from as usize;
         let bound = bounds[first];
-        let guess = nexts[first + 1];
-        let onward = onward_within(segments, nearest, bound, limit, rest, guess, costs, roots);
+        // On a line near 45 degrees every second point goes on alike.
+        let guess = nexts[(first + 2).min(segments.lasts.len())];
+        let onward = onward_within(
+            segments, nearest, bound, limit, rest, guess, leasts, costs, roots,
+        );
         costs[slot(costs, first)] = onward.cost;
         nexts[first] = onward.next;
         least = least.min(left_by(bound, onward.cost));
@@ -175,6 +195,7 @@ fn onward_within(
     limit: u64,
     rest: u64,
     guess: u32,
+    leasts: &[u64],
     costs: &[u64],
     roots: &mut Roots,
 ) -> OnwardSegment
@@ -185,6 +206,10 @@ fn onward_within(
     requires slots { IsPowerOfTwo (length costs.now) }
     requires small { (k : ℕ) → nearest.to ≤ k → k ≤ slice_index segments.now.lasts.items nearest.from
         → slice_index costs.now (slot_of (length costs.now) k) < 2 ^ 56 }
+    requires blocks { slice_index segments.now.lasts.items nearest.from - nearest.to < BLOCK * length leasts.now }
+    requires leasts { AreLeasts
+        (λ k. penalty_of segments.now.moments.now nearest.from k + slice_index costs.now (slot_of (length costs.now) k))
+        bound.ahead nearest.to (slice_index segments.now.lasts.items nearest.from + 1) leasts.now }
     requires floor { bound.floor < 2 ^ 56 }
     requires limit { limit < 2 ^ 56 }
     requires rest { rest < 2 ^ 57 }
@@ -200,8 +225,23 @@ fn onward_within(
     if limit < bound.floor + u64::from(bound.ahead) + rest {
         return far;
     }
-    let onward = cheapest_from(segments, nearest, guess, costs, roots);
-    if limit < bound.floor + onward.cost {
+    let most = limit - bound.floor;
+    let broad = segments.lasts[nearest.from as usize] - nearest.to >= BROAD;
+    let onward = if broad {
+        cheapest_by_blocks(
+            segments,
+            nearest,
+            guess,
+            most,
+            bound.ahead,
+            leasts,
+            costs,
+            roots,
+        )
+    } else {
+        cheapest_from(segments, nearest, guess, costs, roots)
+    };
+    if most < onward.cost {
         return OnwardSegment {
             cost: FAR,
             next: onward.next,

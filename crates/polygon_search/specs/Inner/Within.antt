@@ -32,7 +32,7 @@ HasNextsWithin size is_allowed cost bounds limit low nexts = (k c : ℕ) → low
 -- cheapest one, if floor and cost are within the limit; else its way counts as far
 pub data IsOnwardBy (cost_by : ℕ → ℕ) (begin end limit rest : ℕ) (bound : Bound) (onward : OnwardSegment) : Type 0 where
   left_out : limit < bound.floor + bound.ahead + rest → onward.cost ≡ FAR → IsOnwardBy cost_by begin end limit rest bound onward
-  too_dear : (cheapest : OnwardSegment) → HasCheapest cost_by begin end cheapest → limit < bound.floor + cheapest.cost → onward.cost ≡ FAR
+  too_dear : ((k : ℕ) → begin ≤ k → k < end → limit < bound.floor + cost_by k) → onward.cost ≡ FAR
       → IsOnwardBy cost_by begin end limit rest bound onward
   kept : HasCheapest cost_by begin end onward → bound.floor + onward.cost ≤ limit → IsOnwardBy cost_by begin end limit rest bound onward
 

@@ -1,7 +1,7 @@
-use Rattle.std.proofs.Common.{◌≡◌, ℕ, ◌+◌, ◌-◌, ◌<◌, ◌≤◌, ◌^◌, length, replicate, ◌∙◌, ap, subst, arith}
+use Rattle.std.proofs.Common.{◌≡◌, ℕ, ◌-◌, length, replicate, ◌∙◌, ap, subst, arith}
 use Rattle.polygon_search.specs.declared.bounds.Bound.{Bound}
 use Rattle.polygon_search.specs.Polygon.{penalty_of}
-use Rattle.polygon_search.specs.Inner.VertexBounds.{AreBoundsOf, no_bound}
+use Rattle.polygon_search.specs.Inner.VertexBounds.{AreBoundsOf}
 use Rattle.polygon_search.proofs.Joining.{bound_of_none}
 use Rattle.polygon_search.proofs.bounds.fill_bounds.Goals as goal
 

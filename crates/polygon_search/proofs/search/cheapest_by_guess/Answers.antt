@@ -4,7 +4,7 @@ use Rattle.polygon_search.specs.declared.search.OnwardSegment.{OnwardSegment}
 use Rattle.polygon_search.specs.Inner.Search.{HasCheapest, slot_of}
 use Rattle.polygon_search.specs.Polygon.{penalty_of}
 use Rattle.polygon_search.proofs.Counting.{last_of}
-use Rattle.polygon_search.proofs.Scanning.{alone_costs, below_bound, tried_by, tried_none, worth_is}
+use Rattle.polygon_search.proofs.Scanning.{alone_costs, is_cheapest, tried_by, tried_none, tried_on, worth_is}
 use Rattle.polygon_search.proofs.search.cheapest_by_guess.Goals as goal
 
 pub returns : goal.returns
@@ -31,4 +31,5 @@ returns c =
     let beyond = rw (at.from, at.to) at c.cheaper_far_beyond.ensures in
     let R : ℕ → Type 0 = λ end. HasCheapest cost_by begin (end + 1) c.cheaper_far_beyond.result in
     subst R last
-    (below_bound cost_by begin to (c.index-last.result.now + 1) bound c.cheaper_by-first.result c.cheaper_far_beyond.result near room (omega (arith, cost)) first beyond)
+    (is_cheapest cost_by begin to (c.index-last.result.now + 1) bound c.cheaper_far_beyond.result near room (omega (arith, cost))
+    (tried_on cost_by begin (begin + 1) (c.index-last.result.now + 1) bound c.cheaper_by-first.result c.cheaper_far_beyond.result (omega arith) (omega arith) first beyond))

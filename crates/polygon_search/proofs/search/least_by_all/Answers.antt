@@ -4,7 +4,7 @@ use Rattle.least_walk.proofs.Going.{fewest_below}
 use Rattle.polygon_search.specs.Inner.Lasts.{IsUpToLast}
 use Rattle.polygon_search.specs.Polygon.{penalty_of}
 use Rattle.polygon_search.proofs.Leading.{leads_by_all}
-use Rattle.polygon_search.proofs.Windowing.{windows_fewest}
+use Rattle.polygon_search.proofs.Windowed.{windows_fewest}
 use Rattle.polygon_search.proofs.search.least_by_all.Goals as goal
 
 -- there are as many segments as windows, without the first

@@ -13,8 +13,7 @@ use Rattle.polygon_search.specs.Polygon.{penalty_of}
 use Rattle.polygon_search.proofs.Counting.{counted}
 use Rattle.polygon_search.proofs.Keeping.{kept_within}
 use Rattle.polygon_search.proofs.Slots.{kept_at_end, slot_below, some_slots}
-use Rattle.polygon_search.proofs.Windowed.{starts_first}
-use Rattle.polygon_search.proofs.Windowing.{last_at_end}
+use Rattle.polygon_search.proofs.Windowed.{last_at_end, starts_first}
 use Rattle.polygon_search.proofs.within.fill_costs_within.Goals as goal
 
 -- from the end on nothing is left to pay

@@ -1,4 +1,4 @@
-use Rattle.std.proofs.Common.{◌≡◌, ℕ, ◌+◌, ◌-◌, length, set, inl, inr, ap, subst, sym, ◌∙◌, arith}
+use Rattle.std.proofs.Common.{◌≡◌, ℕ, ◌+◌, ◌-◌, ◌<◌, length, set, inl, inr, ap, subst, sym, ◌∙◌, arith}
 use Rattle.std.proofs.lemmas.Bool.{cases_lt}
 use Rattle.std.specs.Prelude.{slice_index}
 use Rattle.pt_core.specs.ClosedWalk.{point_at}
@@ -11,8 +11,9 @@ use Rattle.polygon_search.proofs.Counting.{counted}
 use Rattle.polygon_search.proofs.Opening.{far_before, none_between}
 use Rattle.polygon_search.proofs.Keeping.{kept_down}
 use Rattle.polygon_search.proofs.Narrowing.{kept_on, kept_small, rest_more}
+use Rattle.polygon_search.proofs.Passing.{leasts_kept}
 use Rattle.polygon_search.proofs.Stepping.{before_end_too}
-use Rattle.polygon_search.proofs.Windowing.{all_reach, all_vertices, begins_before, ends_before_end, is_before_window, none_beyond}
+use Rattle.polygon_search.proofs.Windowed.{all_reach, all_vertices, begins_before, ends_before_end, is_before_window, none_beyond}
 use Rattle.polygon_search.proofs.within.fill_window_within.Goals as goal
 
 -- the window ends before the path does, and before the next one begins
@@ -57,9 +58,42 @@ loop-nearest-init c =
         | inl early ↦ absurd (none k (omega (arith, at.from)) early place)
         | inr late ↦ c.requires.later_nexts k c' late low place
       ];
+      blocks = λ block k above near room. c.fill_leasts.ensures.leasts block k above near (omega (
+        arith,
+        none_beyond size lasts begins farthest s.onwards s.rising c.requires.windows c.args.window c.requires.window c.nearest_from-nearest.result.from
+            (omega (arith, at.from, begins_before size lasts begins farthest s.onwards s.rising c.requires.windows c.args.window c.requires.window)) (omega (arith, at.from)),
+      ));
       low = omega arith;
       rest = λ k c' above near. absurd (omega (arith, at.from));
     }
+
+-- no window has more points than the costs have slots
+pub fill_leasts-requires-clause-blocks : goal.fill_leasts-requires-clause-blocks
+fill_leasts-requires-clause-blocks c =
+    let s = c.args.segments.now in
+    let size = length s.moments.now in
+    let lasts = s.lasts.items in
+    let begins = c.args.begins.now in
+    let farthest = c.args.farthest.now in
+    let before = far_before size lasts (counts_of size lasts) farthest c.args.window _
+    (is_before_window size lasts begins farthest s.onwards s.rising c.requires.windows c.args.window c.requires.window) in
+    let below = ends_before_end size lasts begins farthest s.onwards s.rising c.requires.windows c.args.window c.requires.window in
+    let ends = c.requires.windows.ends in
+    let reach : slice_index farthest (c.args.window + 1) ≡ slice_index lasts (slice_index farthest c.args.window) =
+    ends.onwards c.args.window (omega (arith, ends.count, c.requires.window)) in
+    let room : slice_index lasts (slice_index farthest c.args.window) < slice_index farthest c.args.window + length c.args.costs.now =
+    c.requires.slots.beyond (slice_index farthest c.args.window) below in
+    let some = all_reach size lasts begins farthest s.onwards s.rising c.requires.windows c.args.window c.requires.window (slice_index farthest c.args.window)
+    (begins_before size lasts begins farthest s.onwards s.rising c.requires.windows c.args.window c.requires.window) (omega arith) in
+    omega (arith, before, reach, room, some, c.requires.blocks)
+
+-- both halves of a segment add no more than it costs
+pub onward_within-onward-requires-clause-leasts : goal.onward_within-onward-requires-clause-leasts
+onward_within-onward-requires-clause-leasts c = λ block k above near within.
+    let so_far = c.loop-nearest.invariant in
+    let pair = c.requires.bounds.joined c.args.window c.loop-nearest.nearest.from k (omega (arith, c.requires.window))
+    (record { begin = so_far.above; end = so_far.near }) (omega (arith, so_far.to)) (omega arith) in
+    omega (arith, so_far.blocks block k (omega (arith, so_far.to)) (omega (arith, so_far.to)) within, pair.halves)
 
 -- each point of the window reaches the next one
 pub onward_within-onward-requires-clause-some : goal.onward_within-onward-requires-clause-some
@@ -225,6 +259,11 @@ loop-nearest-preserved c =
           (set c.loop-nearest.costs c.slot.result c.onward_within-onward.result.cost)) e stepped.kept;
       nexts = subst (λ n. HasNextsWithin size (IsUpToLast lasts) (penalty_of s.moments.now) c.args.bounds.now c.args.limit n
           (set c.loop-nearest.nexts i c.onward_within-onward.result.next)) e stepped.written;
+      blocks = leasts_kept c.args.bounds.now c.loop-nearest.costs (slice_index c.args.begins.now (c.args.window + 1)) i c.slot.result
+          c.onward_within-onward.result.cost (slice_index lasts i + 1) (slice_index lasts c.earlier_by-nearest.result.from + 1) c.fill_leasts.new.leasts
+          c.slot.ensures here.begins.above
+          (omega (arith, s.rising c.earlier_by-nearest.result.from (omega (arith, e, here.below)), ap (slice_index lasts) e))
+          (omega (arith, e, c.requires.slots.beyond c.earlier_by-nearest.result.from (omega (arith, e, here.below)), c.loop-nearest.auto.costs)) so_far.blocks;
       low = omega (arith, c.min-least.ensures, so_far.low);
       rest = subst (λ n. IsLeastRest size (IsUpToLast lasts) (penalty_of s.moments.now) c.args.bounds.now c.args.limit n
           (slice_index c.args.farthest.now c.args.window) c.min-least.result) e rest;

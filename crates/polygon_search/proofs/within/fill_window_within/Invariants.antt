@@ -1,5 +1,6 @@
 use Rattle.std.proofs.Common.{◌≡◌, ◌+◌, ◌<◌, ◌≤◌, ◌^◌, length}
 use Rattle.std.specs.Prelude.{slice_index}
+use Rattle.polygon_search.specs.Inner.BlockLeasts.{AreLeasts, left_at}
 use Rattle.polygon_search.specs.Inner.Lasts.{IsUpToLast}
 use Rattle.polygon_search.specs.Inner.Within.{AreKeptWithin, HasNextsWithin, IsLeastRest}
 use Rattle.polygon_search.specs.Polygon.{penalty_of}
@@ -18,6 +19,7 @@ invariant-loop-nearest l =
       above : slice_index l.begins l.window ≤ l.nearest.from;
       costs : AreKeptWithin (length points) (IsUpToLast lasts) (penalty_of points) l.bounds l.limit (l.nearest.from + 1) l.costs;
       nexts : HasNextsWithin (length points) (IsUpToLast lasts) (penalty_of points) l.bounds l.limit (l.nearest.from + 1) l.nexts;
+      blocks : AreLeasts (left_at l.bounds l.costs) 0 (slice_index l.begins (l.window + 1)) (slice_index lasts l.nearest.from + 1) l.leasts;
       low : l.least < 2 ^ 57;
       rest : IsLeastRest (length points) (IsUpToLast lasts) (penalty_of points) l.bounds l.limit (l.nearest.from + 1) far l.least;
     }

@@ -1,4 +1,4 @@
-use Rattle.std.proofs.Common.{◌≡◌, ℕ, ◌+◌, ◌-◌, ◌<◌, ◌≤◌, length, subst, sym, ◌∙◌, arith}
+use Rattle.std.proofs.Common.{◌≡◌, ◌-◌, length, subst, ◌∙◌, arith}
 use Rattle.std.specs.Prelude.{slice_index}
 use Rattle.least_walk.proofs.Going.{fewest_below}
 use Rattle.least_walk.proofs.Lists.{whole}
@@ -7,7 +7,7 @@ use Rattle.polygon_search.specs.Inner.Lasts.{IsUpToLast}
 use Rattle.polygon_search.specs.Inner.Within.{HasNextsWithin}
 use Rattle.polygon_search.specs.Polygon.{penalty_of}
 use Rattle.polygon_search.proofs.Leading.{leads_within}
-use Rattle.polygon_search.proofs.Windowing.{windows_fewest}
+use Rattle.polygon_search.proofs.Windowed.{windows_fewest}
 use Rattle.polygon_search.proofs.within.least_by_bounds.Goals as goal
 
 -- there are as many segments as windows, without the first
