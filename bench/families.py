@@ -101,8 +101,13 @@ def bends(side):
 
 
 def steep(side):
-    """lines of slope 0.9907 that bend by 1.4 pixels: the dearest by climbing over slopes and bends"""
+    """lines of slope 0.9907 that bend by 1.4 pixels, by climbing over slopes and bends"""
     return lines(side, lambda x: 0.99067 * x + 5.6626 * x * (side - x) / side ** 2 + 0.1119)
+
+
+def bows(side):
+    """lines of slope 0.9823 that bend by 1.8 pixels: dear where pages are small, by climbing too"""
+    return lines(side, lambda x: 0.98228 * x + 7.2029 * x * (side - x) / side ** 2 + 0.5758)
 
 
 def rings(side):
@@ -169,7 +174,7 @@ def noise(side):
 
 
 FAMILIES = {it.__name__: it for it in (
-    diagonal, diagonal3, diagonal8, diagonal1, diamonds, slope2, slope32, golden, arcs, sags, cubics, bends, steep, rings, stadium_bent, nest, holes, checker,
+    diagonal, diagonal3, diagonal8, diagonal1, diamonds, slope2, slope32, golden, arcs, sags, cubics, bends, steep, bows, rings, stadium_bent, nest, holes, checker,
     dots, noise)}
 
 
