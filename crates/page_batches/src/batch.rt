@@ -1,5 +1,6 @@
 //! What was read and isn't carried out yet.
-ghost use Rattle.std.specs.Prelude.{◌≡◌, ◌+◌, ◌*◌, ◌≤◌, ◌<◌, ◌++◌, ◌∷◌, ◌^◌, ℕ, suc, List, [], length, true, IfErr, OnOk, option_map, string_bytes};
+ghost use Rattle.std.specs.Prelude.{◌≡◌, ◌+◌, ◌*◌, ◌≤◌, ◌<◌, ◌++◌, ◌∷◌, ◌^◌, ℕ, suc, List, [], length, true, IfErr, IfOk, OnOk, option_map, string_bytes};
+ghost use Rattle.std.specs.List.{AllZip};
 ghost use Rattle.run_output.specs.Messages.{trailing_line};
 ghost use Rattle.run_output.specs.Parts.{page_part};
 ghost use Rattle.run_output.specs.declared.status.Status.{Status};
@@ -215,20 +216,11 @@ impl Batch {
     {
         // A page has one text, so what is held has one list of items.
         held_items_are_one(plan.job);
-        let pages = self.pages.as_slice();
-        let Ok(texts) = trace_all(
-            plan.threads,
-            plan.alloc,
-            plan.job,
-            pages,
-            plan.workers,
-            plan.gate,
-        ) else {
+        let Ok(texts) = texts_of(plan, &mut self.pages) else {
+            self.entries.clear();
             say_out_of_memory(desk.errs);
             return Err(Status::OutOfMemory);
         };
-        // Their memory is free again before a document is written.
-        self.pages.clear();
         let written = write_entries(plan.binding, &self.entries, &texts, desk);
         self.entries.clear();
         match written {
@@ -236,6 +228,51 @@ impl Batch {
             Err(_) => Err(Status::Unwritten),
         }
     }
+}
+
+/// The job's text of each page, in page order. The pages are given back, so that their memory is free again before a
+/// document is written.
+//
+// A page that is alone, as of a file of one page, is given to the job, and so is given back before its text stands.
+fn texts_of<R: Threads + Sync, J: PageJob + Sync, G: Gate + Sync>(
+    plan: &Plan<R, J, G>,
+    pages: &mut Vec<Bitmap>,
+) -> Result<Vec<Vec<u8>>, NoMemory>
+    requires few { length pages.old.items < 2 ^ 32 }
+    ensures texts { IfOk result (λ texts. AllZip (λ page text. J.belongs plan.now.job.now page text.items)
+        pages.old.items texts.items) }
+    ensures none { pages.new.items ≡ [] }
+{
+    if pages.len() == 1 {
+        if let Some(page) = pages.pop() {
+            return text_alone(plan, page);
+        }
+    }
+    let texts = trace_all(
+        plan.threads,
+        plan.alloc,
+        plan.job,
+        pages,
+        plan.workers,
+        plan.gate,
+    );
+    pages.clear();
+    texts
+}
+
+/// The job's text of one page, as a list.
+fn text_alone<R: Threads + Sync, J: PageJob + Sync, G: Gate + Sync>(
+    plan: &Plan<R, J, G>,
+    page: Bitmap,
+) -> Result<Vec<Vec<u8>>, NoMemory>
+    ensures { IfOk result (λ texts. AllZip (λ page text. J.belongs plan.now.job.now page text.items)
+        (page ∷ []) texts.items) }
+{
+    plan.gate.at(0);
+    let text = plan.job.given_page(plan.alloc, page)?;
+    let mut texts = Vec::new(plan.alloc);
+    texts.push(text)?;
+    Ok(texts)
 }
 
 /// Writes the parts of documents that are pages, whose texts these are, and ends documents and says the messages

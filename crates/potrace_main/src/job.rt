@@ -5,7 +5,7 @@ ghost use Rattle.page_trace.specs.Document.{IsDocument};
 ghost use Rattle.pt_core.specs.Needs.{CanWrite};
 
 use bit_image::Bitmap;
-use page_trace::{document, pages_have_documents};
+use page_trace::{document, document_of_given, pages_have_documents};
 use page_workers::PageJob;
 use pt_core::{NoMemory, Settings};
 use std::alloc::Global;
@@ -36,6 +36,10 @@ impl PageJob for DocumentJob {
 
     fn page(&self, alloc: Global, page: &Bitmap) -> Result<Vec<u8>, NoMemory> {
         document(alloc, page, &self.settings)
+    }
+
+    fn given_page(&self, alloc: Global, page: Bitmap) -> Result<Vec<u8>, NoMemory> {
+        document_of_given(alloc, page, &self.settings)
     }
 
     ghost one_text = { λ job page a b this that. one_document job.backend page job a b this that };

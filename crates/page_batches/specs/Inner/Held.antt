@@ -76,9 +76,9 @@ EndsHolding (Err status.OutOfMemory) b size belongs read held old new = HasEnded
 EndsHolding (Err s) b size belongs read held old new = ⊥
 
 -- how a call ended that was to carry out what was held, where a document is open, or not: nothing is held, and one is
--- open as it has to be then; or a part wasn't written, and nothing is held; or memory ran out, and all is as it was
+-- open as it has to be then; or a part wasn't written; or memory ran out, and one is open as it was
 abbrev pub LeavesBatch : Result Unit Status → Binding → Bool → Bool → List Held → List Held → Type 0
 LeavesBatch (Ok done) b is_open is_open_now old new = (new ≡ []) × (is_open_now ≡ is_open_held b is_open old)
 LeavesBatch (Err status.Unwritten) b is_open is_open_now old new = new ≡ []
-LeavesBatch (Err status.OutOfMemory) b is_open is_open_now old new = (new ≡ old) × (is_open_now ≡ is_open)
+LeavesBatch (Err status.OutOfMemory) b is_open is_open_now old new = (new ≡ []) × (is_open_now ≡ is_open)
 LeavesBatch (Err s) b is_open is_open_now old new = ⊥

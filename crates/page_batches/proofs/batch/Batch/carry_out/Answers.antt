@@ -1,4 +1,4 @@
-use Rattle.std.proofs.Common.{◌∙◌, length, ap, refl, arith}
+use Rattle.std.proofs.Common.{◌∙◌, ap, refl, arith}
 use Rattle.std.proofs.lemmas.Slice.Zip.{AllZip-long}
 use Rattle.page_batches.specs.Inner.Held.{is_open_held}
 use Rattle.page_batches.proofs.Batching.{items_are_held, open_by, pages_held-held_by, turn_by}
@@ -7,11 +7,11 @@ use Rattle.page_batches.proofs.Carrying.{memory_out, only_said, unwritten_not_ou
 use Rattle.page_batches.proofs.batch.Batch.carry_out.Goals as goal
 
 -- the pages that are held are those of the batch
-pub trace_all-requires-clause-pages : goal.trace_all-requires-clause-pages
-trace_all-requires-clause-pages g c κs within =
+pub texts_of-requires-clause-few : goal.texts_of-requires-clause-few
+texts_of-requires-clause-few g c =
     let all = pages_held-held_by c.self.inside.entries.items c.self.inside.pages.items c.self.invariant in
     let few = rw (← c.self.view_is) at c.requires.few in
-    rw (c.as_slice-pages.ensures.value) (omega (arith, all, few))
+    omega (arith, all, few)
 
 -- no page is traced
 pub returns-in_default-clause-ended : goal.returns-in_default-clause-ended
@@ -25,8 +25,8 @@ returns-in_default-clause-idle g c = λ is. only_said out_of_memory _ _ (record 
 -- there is a text for each page
 pub write_entries-written-requires-clause-texts : goal.write_entries-written-requires-clause-texts
 write_entries-written-requires-clause-texts g c =
-    let zipped = AllZip-long _ c.as_slice-pages.result.now c.in-Ok.texts.items c.in-Ok.ensures.texts in
-    rw (c.deref.ensures.value, c.deref-2.ensures.value) (zipped ∙ ap length c.as_slice-pages.ensures.value ∙ c.self.invariant)
+    let zipped = AllZip-long _ c.self.inside.pages.items c.in-Ok.texts.items c.in-Ok.ensures.texts in
+    rw (c.deref.ensures.value, c.deref-2.ensures.value) (zipped ∙ c.self.invariant)
 
 -- the entries are in turn
 pub write_entries-written-requires-clause-turn : goal.write_entries-written-requires-clause-turn
@@ -38,15 +38,15 @@ write_entries-written-requires-clause-turn g c =
 pub returns-in-Ok-written-clause-ended : goal.returns-in-Ok-written-clause-ended
 returns-in-Ok-written-clause-ended g c = λ items held.
     let are = items_are_held c.args.plan.now.binding (g.J.PageJob.belongs c.args.plan.now.job.now) c.self.inside.entries.items c.self.inside.pages.items
-    c.in-Ok.texts.items (rw (c.as_slice-pages.ensures.value) at c.in-Ok.ensures.texts) c.self.invariant in
+    c.in-Ok.texts.items c.in-Ok.ensures.texts c.self.invariant in
     let same = c.held_items_are_one.ensures c.args.plan.now.binding _ items _ (rw (← c.self.view_is) at held) are in
     rw same (rw (c.deref.ensures.value, c.deref-2.ensures.value) at c.in-Ok-written.ensures.written)
 
 -- a document is open as it has to be behind them
 pub returns-in-Ok-written-clause-left : goal.returns-in-Ok-written-clause-left
 returns-in-Ok-written-clause-left g c =
-    let zipped = AllZip-long _ c.as_slice-pages.result.now c.in-Ok.texts.items c.in-Ok.ensures.texts in
-    let long = zipped ∙ ap length c.as_slice-pages.ensures.value ∙ c.self.invariant in
+    let zipped = AllZip-long _ c.self.inside.pages.items c.in-Ok.texts.items c.in-Ok.ensures.texts in
+    let long = zipped ∙ c.self.invariant in
     let opened = (rw (c.deref.ensures.value, c.deref-2.ensures.value) at c.in-Ok-written.ensures.written).opened in (
       rw c.clear-2.ensures.items refl,
       opened ∙ open_by c.args.plan.now.binding _ c.self.inside.entries.items c.self.inside.pages.items c.in-Ok.texts.items c.self.invariant long
@@ -57,7 +57,7 @@ returns-in-Ok-written-clause-left g c =
 pub returns-clause-ended : goal.returns-clause-ended
 returns-clause-ended g c = λ items held.
     let are = items_are_held c.args.plan.now.binding (g.J.PageJob.belongs c.args.plan.now.job.now) c.self.inside.entries.items c.self.inside.pages.items
-    c.in-Ok.texts.items (rw (c.as_slice-pages.ensures.value) at c.in-Ok.ensures.texts) c.self.invariant in
+    c.in-Ok.texts.items c.in-Ok.ensures.texts c.self.invariant in
     let same = c.held_items_are_one.ensures c.args.plan.now.binding _ items _ (rw (← c.self.view_is) at held) are in
     rw same (rw (c.deref.ensures.value, c.deref-2.ensures.value) at c.in-Err.ensures.written)
 
