@@ -108,6 +108,20 @@ has_spot rows starts words p x y few blocks fits column row =
     (subst (λ n. HasSpot rows starts (nat_abs p.x + 3) n) row
     (record { few = few; column = fits.column; row = fits.row; room = fits.room; start = blocks.start }))
 
+-- of the two corners of a line one is farther to the right and up
+pub farther_has_spot : (rows : ℕ) (starts words : List ℕ) (p q : Point) (x y : ℕ) → rows < 2 ^ 16 → AreBlocks starts words → FitsStrips rows (16 * length starts) p → FitsStrips rows (16 * length starts) q → IsUnitStep p q
+    → max (nat_abs p.x) (nat_abs q.x) + 3 ≡ x → max (nat_abs p.y) (nat_abs q.y) + 3 ≡ y → HasSpot rows starts x y
+farther_has_spot rows starts words p q x y few blocks hp hq step column row = elim (unit_parts rows (16 * length starts) p q hp hq step) [
+  | inl up ↦ elim up.1 [
+    | inl down ↦ has_spot rows starts words p x y few blocks hp (omega (arith, column, up.0)) (omega (arith, row, down))
+    | inr rise ↦ has_spot rows starts words q x y few blocks hq (omega (arith, column, up.0)) (omega (arith, row, rise))
+  ]
+  | inr along ↦ elim along.1 [
+    | inl left ↦ has_spot rows starts words p x y few blocks hp (omega (arith, column, left)) (omega (arith, row, along.0))
+    | inr right ↦ has_spot rows starts words q x y few blocks hq (omega (arith, column, right)) (omega (arith, row, along.0))
+  ]
+]
+
 spot_up : (a b d k u v : ℕ) → (b ≡ suc d) ⊎ (d ≡ suc b) → (c : ℕ) → a ≡ c → same_edge 0 (max a c + 3) (max b d + 3) k u v ≡ is_along k u v (line_at a b c d)
 spot_up a b d k u v next c same =
     let column : max a c + 3 ≡ a + 3 = omega arith in
@@ -124,7 +138,7 @@ spot_level a b c d k u v next same =
     ∙ sym (ap (λ t. is_along k u v (cond t (upright a (min b d)) (level (min a c) b))) apart)
 
 -- the edge of the kind that the two columns tell is that along the line
-spot_is : (rows size : ℕ) (p q : Point) (kind k u v : ℕ) → FitsStrips rows size p → FitsStrips rows size q → IsUnitStep p q → (nat_abs p.x ≡ nat_abs q.x → kind ≡ 0) → (nat_eq (nat_abs p.x) (nat_abs q.x) ≡ false → kind ≡ 1)
+pub spot_is : (rows size : ℕ) (p q : Point) (kind k u v : ℕ) → FitsStrips rows size p → FitsStrips rows size q → IsUnitStep p q → (nat_abs p.x ≡ nat_abs q.x → kind ≡ 0) → (nat_eq (nat_abs p.x) (nat_abs q.x) ≡ false → kind ≡ 1)
     → same_edge kind (max (nat_abs p.x) (nat_abs q.x) + 3) (max (nat_abs p.y) (nat_abs q.y) + 3) k u v ≡ is_along k u v (line_between p q)
 spot_is rows size p q kind k u v hp hq (inr up) zero_is one_is =
     let same : nat_abs p.x ≡ nat_abs q.x = ap nat_abs up.0 in

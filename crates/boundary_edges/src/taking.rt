@@ -2,7 +2,7 @@
 //!
 //! Most lines stand in the word of the one before, one bit beside it, or in the next word of the strip. A long straight
 //! run is known by its two ends alone.
-ghost use Rattle.std.specs.Prelude.{◌≡◌, ℕ, ◌+◌, ◌*◌, ◌≤◌, ◌<◌, ◌^◌, ◌&&◌, not, length, All};
+ghost use Rattle.std.specs.Prelude.{◌≡◌, ◌≢◌, ℕ, ◌+◌, ◌*◌, ◌%◌, ◌≤◌, ◌<◌, ◌^◌, ◌&&◌, not, max, nat_abs, pos, ◌≤ℤ◌, length, slice_index_or, All};
 ghost use Rattle.boundary_edges.specs.Inner.Blocks.{AreBlocks};
 ghost use Rattle.boundary_edges.specs.Inner.BoundaryBits.{has_edge, FitsStrips, is_along};
 ghost use Rattle.boundary_edges.specs.Inner.Taken.{IsSpotOf, IsTowards, AreWordsFor, corner_of, is_along_any, AreTakenBy, AreLinesTaken};
@@ -42,19 +42,30 @@ fn take_stretches(words: &mut [u64], starts: &[u32], rows: usize, points: &[Poin
     ensures { AreTakenBy rows starts.now (is_along_any (lines_of points.now)) words.old words.new }
 {
     let (first, last) = (points[0], points.len() - 1);
-    let mut spot = spot_at(
-        starts,
-        rows,
-        first.x as u32 + MARGIN,
-        first.y as u32 + MARGIN,
-    );
+    let mut spot = spot_of(starts, rows, first);
     let mut at = 0;
     'stretches: while at < last {
         let end = last.min(at + STRETCH);
         spot = take_stretch(words, starts, rows, spot, points, at, end);
         at = end;
     }
-    take_line(words, starts, rows, spot, points[last], first);
+    take_line(words, starts, rows, points[last], first);
+}
+
+/// Where the edges of a corner stand.
+#[inline(always)]
+fn spot_of(starts: &[u32], rows: usize, corner: Point) -> Spot
+    requires rows { rows < 2 ^ 16 }
+    requires corner { FitsStrips rows (BLOCK * length starts.now) corner }
+    requires starts { (b : ℕ) → slice_index_or starts.now b 0 % BLOCK ≡ 0 }
+    ensures { IsSpotOf rows starts.now corner result }
+{
+    spot_at(
+        starts,
+        rows,
+        corner.x as u32 + MARGIN,
+        corner.y as u32 + MARGIN,
+    )
 }
 
 /// Takes the edges between two corners of a closed walk away, at most a stretch apart, and tells where the last one's
@@ -89,7 +100,8 @@ fn take_stretch(
     } else if right == -(STRETCH as i32) {
         take_run(words, starts, rows, spot, points, from, Dir::West)
     } else {
-        take_lines(words, starts, rows, spot, points, from, to)
+        take_lines(words, starts, rows, points, from, to);
+        spot_of(starts, rows, there)
     }
 }
 
@@ -122,58 +134,64 @@ fn take_run(
 
 /// The same line by line.
 //
-// Each corner is read again as the one before the next: that is cheaper than to hold it.
+// Where lines bend, a jump that hangs on their heading is foreseen half of the time, and one that isn't takes longer than all
+// else that is asked of a line. So where an edge stands is worked out by its two corners, and nothing jumps.
 #[inline(always)]
 fn take_lines(
     words: &mut [u64],
     starts: &[u32],
     rows: usize,
-    mut spot: Spot,
     points: &[Point],
     from: usize,
     to: usize,
-) -> Spot
+)
     requires words { AreWordsFor points.now rows (BLOCK * length starts.now) }
     requires blocks { AreBlocks starts.now words.old }
     requires order { (from ≤ to) × (to < length points.now) }
-    requires spot { IsSpotOf rows starts.now (corner_of points.now from) spot }
-    ensures taken { AreLinesTaken rows starts.now points.now from to words.old words.new }
-    ensures spot { IsSpotOf rows starts.now (corner_of points.now to) result }
+    ensures { AreLinesTaken rows starts.now points.now from to words.old words.new }
 {
     'lines: for i in from..to {
-        spot = take_line(words, starts, rows, spot, points[i], points[i + 1]);
+        take_line(words, starts, rows, points[i], points[i + 1]);
     }
-    spot
 }
 
-/// Takes the edge along the line between two corners one step apart away, and tells where the second one's stand.
+/// Takes the edge along the line between two corners one step apart away.
+//
+// It stands at the corner that is farther to the right and up.
 #[inline(always)]
-fn take_line(
-    words: &mut [u64],
-    starts: &[u32],
-    rows: usize,
-    spot: Spot,
-    from: Point,
-    to: Point,
-) -> Spot
+fn take_line(words: &mut [u64], starts: &[u32], rows: usize, from: Point, to: Point)
     requires rows { rows < 2 ^ 16 }
     requires blocks { AreBlocks starts.now words.old }
-    requires spot { IsSpotOf rows starts.now from spot }
     requires from { FitsStrips rows (BLOCK * length starts.now) from }
     requires to { FitsStrips rows (BLOCK * length starts.now) to }
     requires step { IsUnitStep from to }
-    ensures taken { AreTakenBy rows starts.now (λ k u v. is_along k u v (line_between from to)) words.old words.new }
-    ensures spot { IsSpotOf rows starts.now to result }
+    ensures { AreTakenBy rows starts.now (λ k u v. is_along k u v (line_between from to)) words.old words.new }
 {
-    if to.y > from.y {
-        take_towards(words, starts, rows, spot, from, to, Dir::North)
-    } else if to.y < from.y {
-        take_towards(words, starts, rows, spot, from, to, Dir::South)
-    } else if to.x > from.x {
-        take_towards(words, starts, rows, spot, from, to, Dir::East)
-    } else {
-        take_towards(words, starts, rows, spot, from, to, Dir::West)
-    }
+    let x = greater(from.x, to.x) as u32 + MARGIN;
+    let y = greater(from.y, to.y) as u32 + MARGIN;
+    let spot = spot_at(starts, rows, x, y);
+    take_edge(words, spot, kind_between(from, to));
+}
+
+/// The greater of two coordinates.
+#[inline(always)]
+fn greater(one: i32, other: i32) -> i32
+    requires one { pos 0 ≤ℤ one }
+    requires other { pos 0 ≤ℤ other }
+    ensures value { nat_abs result ≡ max (nat_abs one) (nat_abs other) }
+    ensures natural { pos 0 ≤ℤ result }
+{
+    if one < other { other } else { one }
+}
+
+/// The kind of the edge along the line between two corners.
+#[inline(always)]
+fn kind_between(from: Point, to: Point) -> usize
+    ensures upright { from.x ≡ to.x → result ≡ DOWN }
+    ensures level { from.x ≢ to.x → result ≡ LEFT }
+    ensures few { result < 2 }
+{
+    if from.x == to.x { DOWN } else { LEFT }
 }
 
 /// The same of corners whose line has a heading.

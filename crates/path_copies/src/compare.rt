@@ -5,6 +5,9 @@ ghost use Rattle.path_copies.specs.Copy.{IsCopy};
 use pt_core::Point;
 
 /// Whether two paths are copies of each other.
+//
+// All points are looked at, since nearly all paths with one key are copies: so nothing hangs on a point that comes before,
+// and the compiler takes two at once.
 pub(crate) fn is_copy(points: &[Point], other: &[Point]) -> bool
     requires { 0 < length other.now }
     ensures { IsTrue result → IsCopy points.now other.now }
@@ -12,12 +15,11 @@ pub(crate) fn is_copy(points: &[Point], other: &[Point]) -> bool
     if points.len() != other.len() {
         return false;
     }
+    let mut are_alike = true;
     for k in 0..points.len() {
-        if !lie_alike(points[0], other[0], points[k], other[k]) {
-            return false;
-        }
+        are_alike &= lie_alike(points[0], other[0], points[k], other[k]);
     }
-    true
+    are_alike
 }
 
 /// Whether the second two points lie as far from each other as the first two.
@@ -26,9 +28,25 @@ fn lie_alike(first: Point, start: Point, point: Point, copy: Point) -> bool
     ensures right { IsTrue result → copy.x -ℤ point.x ≡ start.x -ℤ first.x }
     ensures above { IsTrue result → copy.y -ℤ point.y ≡ start.y -ℤ first.y }
 {
+    is_as_far_right(first, start, point, copy) & is_as_far_above(first, start, point, copy)
+}
+
+/// Whether they lie as far to the right.
+#[inline(always)]
+fn is_as_far_right(first: Point, start: Point, point: Point, copy: Point) -> bool
+    ensures { IsTrue result → copy.x -ℤ point.x ≡ start.x -ℤ first.x }
+{
     if between(point.x, copy.x) != between(first.x, start.x) {
         return false;
     }
+    true
+}
+
+/// Whether they lie as far above.
+#[inline(always)]
+fn is_as_far_above(first: Point, start: Point, point: Point, copy: Point) -> bool
+    ensures { IsTrue result → copy.y -ℤ point.y ≡ start.y -ℤ first.y }
+{
     if between(point.y, copy.y) != between(first.y, start.y) {
         return false;
     }

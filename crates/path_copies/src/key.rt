@@ -29,14 +29,19 @@ pub(crate) fn key_of(points: &[Point], places: usize) -> Key {
 // a path is a copy is seen by all of its points.
 fn number_of(points: &[Point]) -> u64 {
     let mut number = points.len() as u64;
-    if let Some(first) = points.first() {
-        for point in points.iter().step_by(points.len() / PARTS + 1) {
-            number = mixed(
-                number,
-                point.x.wrapping_sub(first.x),
-                point.y.wrapping_sub(first.y),
-            );
-        }
+    let Some(first) = points.first() else {
+        return number;
+    };
+    let step = points.len() / PARTS + 1;
+    for part in 0..PARTS {
+        let Some(point) = points.get(part * step) else {
+            return number;
+        };
+        number = mixed(
+            number,
+            point.x.wrapping_sub(first.x),
+            point.y.wrapping_sub(first.y),
+        );
     }
     number
 }

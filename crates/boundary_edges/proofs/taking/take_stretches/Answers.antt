@@ -10,4 +10,4 @@ take_line-requires-clause-step c = step_last c.args.points.now (length c.args.po
 pub returns : goal.returns
 returns c =
     all_taken c.args.rows c.args.starts.now c.args.points.now c.stretches.at (length c.args.points.now - 1) c.args.words.now c.stretches.words c.take_line.new.words
-    (omega (arith, c.stretches-test.false, c.stretches.invariant.inside)) (omega (arith, c.requires.words.closed.least)) c.stretches.invariant.taken c.take_line.ensures.taken
+    (omega (arith, c.stretches-test.false, c.stretches.invariant.inside)) (omega (arith, c.requires.words.closed.least)) c.stretches.invariant.taken c.take_line.ensures
