@@ -99,9 +99,6 @@ fn found(
     }
 }
 
-/// A trail has room for so many points for each column and each row of the page: on maps the longest path has about as many.
-const ROOM_OF_A_SIDE: usize = 8;
-
 /// The same of a page whose first black pixel is pixel (x, y).
 //
 // What is left is held as boundary edges, which each path takes away, and not as a copy of the page that is inverted
@@ -124,10 +121,7 @@ fn found_from(
     // The width is asked, so that the proof sees that a page's pixels lie on it.
     let _ = page.width();
     let mut rest = Edges::of(alloc, page)?;
-    let mut trail = Trail::with_room(
-        alloc,
-        ROOM_OF_A_SIDE * (page.width() + page.height()) as usize,
-    )?;
+    let mut trail = Trail::new(alloc);
     let mut paths = Vec::new(alloc);
     let mut start = Some((x, y));
     'paths: while let Some((x, y)) = start {

@@ -20,16 +20,13 @@ pub(crate) struct Trail {
 }
 
 impl Trail {
-    /// The trail of no walk, with room for so many points.
-    //
-    // What isn't used of it is never touched. A list that grew from nothing would be copied again and again, each time to
-    // memory that is used for the first time.
-    pub(crate) fn with_room(alloc: Global, room: usize) -> Result<Trail, NoMemory> {
-        Ok(Trail {
-            points: Vec::with_capacity(alloc, room)?,
+    /// The trail of no walk.
+    pub(crate) fn new(alloc: Global) -> Trail {
+        Trail {
+            points: Vec::new(alloc),
             up: 0,
             down: 0,
-        })
+        }
     }
 
     /// Forgets the walk.
