@@ -1,7 +1,7 @@
 //! The edges along a path's lines, taken away corner by corner.
 //!
-//! Most lines stand in the word of the one before, one bit beside it, or in the next word of the strip. A long straight
-//! run is known by its two ends alone.
+//! A long straight run is known by its two ends alone: each of its lines stands in the word of the one before, one bit beside
+//! it, or in the next word of the strip. Where other lines stand is worked out anew.
 ghost use Rattle.std.specs.Prelude.{◌≡◌, ◌≢◌, ℕ, ◌+◌, ◌*◌, ◌%◌, ◌≤◌, ◌<◌, ◌^◌, ◌&&◌, not, max, nat_abs, pos, ◌≤ℤ◌, length, slice_index_or, All};
 ghost use Rattle.boundary_edges.specs.Inner.Blocks.{AreBlocks};
 ghost use Rattle.boundary_edges.specs.Inner.BoundaryBits.{has_edge, FitsStrips, is_along};
@@ -134,8 +134,9 @@ fn take_run(
 
 /// The same line by line.
 //
-// Where lines bend, a jump that hangs on their heading is foreseen half of the time, and one that isn't takes longer than all
-// else that is asked of a line. So where an edge stands is worked out by its two corners, and nothing jumps.
+// Where lines bend, a jump that hangs on their heading is often not foreseen, and then takes longer than what it spares. So
+// where an edge stands is worked out by its two corners, and nothing jumps: that takes 1.8 times the instructions on a map, and
+// two thirds of the time.
 #[inline(always)]
 fn take_lines(
     words: &mut [u64],
@@ -194,7 +195,7 @@ fn kind_between(from: Point, to: Point) -> usize
     if from.x == to.x { DOWN } else { LEFT }
 }
 
-/// The same of corners whose line has a heading.
+/// The same of corners whose line has a heading, by where the first one's edges stand; and where the second one's do.
 //
 // A line up or down is the edge that goes down from its upper corner, and one along a row the edge that goes left from
 // its right corner.

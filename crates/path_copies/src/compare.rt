@@ -7,7 +7,7 @@ use pt_core::Point;
 /// Whether two paths are copies of each other.
 //
 // All points are looked at, since nearly all paths with one key are copies: so nothing hangs on a point that comes before,
-// and the compiler takes two at once.
+// and the compiler takes four at once.
 pub(crate) fn is_copy(points: &[Point], other: &[Point]) -> bool
     requires { 0 < length other.now }
     ensures { IsTrue result → IsCopy points.now other.now }
