@@ -5,7 +5,7 @@ ghost use Rattle.half_penalties.specs.Inner.HalfPenalties.{IsSlant};
 ghost use Rattle.half_penalties.specs.Inner.Products.{along_squares_of, determinant_of, AreHalfSums, IsBoundBy, IsShownBound};
 
 use crate::products::Products;
-use std::num::{nearest_i64_to_f64, saturating_f64_to_i64};
+use pt_core::{near_float, near_floor};
 
 /// A greater bound isn't guessed, so that its square times a sum fits.
 const MOST_GUESSED: u64 = (1 << 24) - 1;
@@ -53,13 +53,11 @@ fn determinant(products: Products) -> i128
 
 /// A number that mostly is the greatest bound.
 fn near_bound(products: Products, along: i64, weight: u32) -> u64 {
-    let xx = nearest_i64_to_f64(products.xx);
-    let xy = nearest_i64_to_f64(products.xy);
-    let yy = nearest_i64_to_f64(products.yy);
-    let weight = nearest_i64_to_f64(i64::from(weight));
-    let mean = weight * (xx * yy - xy * xy) / nearest_i64_to_f64(along);
-    let root = saturating_f64_to_i64((65536.0 * mean).sqrt()).cast_unsigned();
-    root.min(MOST_GUESSED)
+    let xx = near_float(products.xx);
+    let xy = near_float(products.xy);
+    let yy = near_float(products.yy);
+    let mean = f64::from(weight) * (xx * yy - xy * xy) / near_float(along);
+    near_floor((65536.0 * mean).sqrt()).min(MOST_GUESSED)
 }
 
 /// Whether whole numbers show that it is a bound.

@@ -9,7 +9,7 @@ ghost use Rattle.prefix_moments.specs.Inner.Table.{prefix_of};
 use crate::moments::{Moments, between};
 use crate::prefix::Prefix;
 use crate::raw::{crossed, wrapped_spread};
-use pt_core::{MOST_STEPS, Point, isqrt};
+use pt_core::{MOST_STEPS, Point, isqrt, near_float, near_floor};
 
 /// A greater root isn't guessed, so that squares times counts fit.
 const MOST_GUESSED: u64 = (1 << 23) - 1;
@@ -137,24 +137,11 @@ pub(crate) fn mean_root(total: u64, count: u64) -> u64
 }
 
 /// A number that mostly is that root.
-//
-// Only whole numbers of 32 bits are taken to floating point, which is one instruction each; and the root is read off the
-// bits of a sum with 2^52, which is rounded to a whole number.
 fn near_mean_root(total: u64, count: u64) -> u64 {
-    let upper = f64::from((total >> 32) as u32);
-    let lower = f64::from((total % 4_294_967_296) as u32);
-    let count = f64::from((count % 4_294_967_296) as u32);
-    let root = (65536.0 * (4294967296.0 * upper + lower) / count).sqrt();
-    let sum = 4503599627370496.0 + (root - NEARLY_HALF);
-    if sum.is_nan() {
-        return 0;
-    }
-    sum.to_bits() % 4_503_599_627_370_496
+    let total = near_float(total.cast_signed());
+    let count = f64::from((count & 0xffff_ffff) as u32);
+    near_floor((65536.0 * total / count).sqrt())
 }
-
-/// A root less this, rounded to the nearest whole number, is the root rounded down, but for roots that lack 1 / 2^20 or less to
-/// the next number.
-const NEARLY_HALF: f64 = 0.5 - 1.0 / 1048576.0;
 
 /// Whether a number is found to be that root: by squares, without a division.
 #[tactic(auto, using(pt_core::proofs::Roots::quotient_root_is))]
