@@ -1,16 +1,16 @@
 //! Whether paths are copies of each other.
-ghost use Rattle.std.specs.Prelude.{◌≡◌, ◌<◌, ◌-ℤ◌, IsTrue, length};
+ghost use Rattle.std.specs.Prelude.{◌≡◌, ◌<◌, ◌-ℤ◌, ◌↔◌, IsTrue, length};
 ghost use Rattle.path_copies.specs.Copy.{IsCopy};
 
 use pt_core::Point;
 
 /// Whether two paths are copies of each other.
 //
-// All points are looked at, since nearly all paths with one key are copies: so nothing hangs on a point that comes before,
-// and the compiler takes four at once.
+// All points are looked at, also behind one that lies elsewhere: so nothing hangs on a point that comes before, and the
+// compiler takes four at once.
 pub(crate) fn is_copy(points: &[Point], other: &[Point]) -> bool
     requires { 0 < length other.now }
-    ensures { IsTrue result → IsCopy points.now other.now }
+    ensures { IsTrue result ↔ IsCopy points.now other.now }
 {
     if points.len() != other.len() {
         return false;
@@ -25,8 +25,7 @@ pub(crate) fn is_copy(points: &[Point], other: &[Point]) -> bool
 /// Whether the second two points lie as far from each other as the first two.
 #[inline(always)]
 fn lie_alike(first: Point, start: Point, point: Point, copy: Point) -> bool
-    ensures right { IsTrue result → copy.x -ℤ point.x ≡ start.x -ℤ first.x }
-    ensures above { IsTrue result → copy.y -ℤ point.y ≡ start.y -ℤ first.y }
+    ensures { IsTrue result ↔ (copy.x -ℤ point.x ≡ start.x -ℤ first.x) × (copy.y -ℤ point.y ≡ start.y -ℤ first.y) }
 {
     is_as_far_right(first, start, point, copy) & is_as_far_above(first, start, point, copy)
 }
@@ -34,7 +33,7 @@ fn lie_alike(first: Point, start: Point, point: Point, copy: Point) -> bool
 /// Whether they lie as far to the right.
 #[inline(always)]
 fn is_as_far_right(first: Point, start: Point, point: Point, copy: Point) -> bool
-    ensures { IsTrue result → copy.x -ℤ point.x ≡ start.x -ℤ first.x }
+    ensures { IsTrue result ↔ (copy.x -ℤ point.x ≡ start.x -ℤ first.x) }
 {
     if between(point.x, copy.x) != between(first.x, start.x) {
         return false;
@@ -45,7 +44,7 @@ fn is_as_far_right(first: Point, start: Point, point: Point, copy: Point) -> boo
 /// Whether they lie as far above.
 #[inline(always)]
 fn is_as_far_above(first: Point, start: Point, point: Point, copy: Point) -> bool
-    ensures { IsTrue result → copy.y -ℤ point.y ≡ start.y -ℤ first.y }
+    ensures { IsTrue result ↔ (copy.y -ℤ point.y ≡ start.y -ℤ first.y) }
 {
     if between(point.y, copy.y) != between(first.y, start.y) {
         return false;
