@@ -4,8 +4,10 @@ pub mod Spread
 pub mod EdgeBits
 pub mod EdgeTaken
 pub mod LineSpots
+pub mod HeadingSpots
 pub mod CornerSpots
 pub mod Straight
+pub mod StretchEnds
 pub mod Bounded
 pub mod EightPixels
 pub mod Taken
