@@ -5,7 +5,7 @@ ghost use Rattle.half_penalties.specs.Inner.HalfPenalties.{IsSlant};
 ghost use Rattle.half_penalties.specs.Inner.Products.{along_squares_of, determinant_of, AreHalfSums, IsBoundBy, IsShownBound};
 
 use crate::products::Products;
-use pt_core::{near_float, near_floor};
+use pt_core::{near_256ths, near_float};
 
 /// A greater bound isn't guessed, so that its square times a sum fits.
 const MOST_GUESSED: u64 = (1 << 24) - 1;
@@ -57,7 +57,7 @@ fn near_bound(products: Products, along: i64, weight: u32) -> u64 {
     let xy = near_float(products.xy);
     let yy = near_float(products.yy);
     let mean = f64::from(weight) * (xx * yy - xy * xy) / near_float(along);
-    near_floor((65536.0 * mean).sqrt()).min(MOST_GUESSED)
+    near_256ths(mean.sqrt()).min(MOST_GUESSED)
 }
 
 /// Whether whole numbers show that it is a bound.

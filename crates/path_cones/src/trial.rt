@@ -133,15 +133,15 @@ fn by_sign(sign: i64, number: i64) -> i64
 // is no longer than its numbers say, and on ragged rims it holds two or three points, so that two points of five lie in
 // none.
 #[inline(never)]
-pub fn strip_from(track: &Track, first: usize, steps: usize, cone: Cone) -> Option<Strip>
+pub fn strip_from(track: &Track, first: usize, steps: usize, cone: &Cone) -> Option<Strip>
     requires subpath { IsSubpath track.now first steps }
-    requires cone { IsSound cone }
+    requires cone { IsSound cone.now }
     ensures { IfSome result (λ strip. HoldsPath strip (path_from track.now first) steps) }
 {
     let quarter = Quarter::of(track.way(first, steps));
     match onward_to(track, first, steps, quarter) {
         Some(onward) if steps >= SHORT => {
-            let slopes = Slopes::of(cone, quarter);
+            let slopes = Slopes::of(*cone, quarter);
             simplest_onward(track, first, steps, quarter, onward, slopes)
         }
         _ => strip_around(track, first, steps, cone),
@@ -150,9 +150,9 @@ pub fn strip_from(track: &Track, first: usize, steps: usize, cone: Cone) -> Opti
 
 /// The same where the path may go back, or the steps are few.
 #[inline(never)]
-fn strip_around(track: &Track, first: usize, steps: usize, cone: Cone) -> Option<Strip>
+fn strip_around(track: &Track, first: usize, steps: usize, cone: &Cone) -> Option<Strip>
     requires subpath { IsSubpath track.now first steps }
-    requires cone { IsSound cone }
+    requires cone { IsSound cone.now }
     ensures { IfSome result (λ strip. HoldsPath strip (path_from track.now first) steps) }
 {
     let chord = track.way(first, steps);
@@ -160,7 +160,7 @@ fn strip_around(track: &Track, first: usize, steps: usize, cone: Cone) -> Option
         return strip_along(track, first, steps, chord).strip;
     }
     let quarter = Quarter::of(chord);
-    let slopes = Slopes::of(cone, quarter);
+    let slopes = Slopes::of(*cone, quarter);
     simplest_strip(track, first, steps, quarter, slopes)
 }
 

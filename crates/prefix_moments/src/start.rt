@@ -9,7 +9,7 @@ ghost use Rattle.prefix_moments.specs.Inner.Table.{prefix_of};
 use crate::moments::{Moments, between};
 use crate::prefix::Prefix;
 use crate::raw::{crossed, wrapped_spread};
-use pt_core::{MOST_STEPS, Point, isqrt, near_float, near_floor};
+use pt_core::{MOST_STEPS, Point, isqrt, near_256ths, near_float};
 
 /// A greater root isn't guessed, so that squares times counts fit.
 const MOST_GUESSED: u64 = (1 << 23) - 1;
@@ -137,10 +137,17 @@ pub(crate) fn mean_root(total: u64, count: u64) -> u64
 }
 
 /// A number that mostly is that root.
+//
+// Each number here waits for the one before. So a sum of 32 bits, as most are, isn't taken to floating point by halves, and
+// the root isn't multiplied.
 fn near_mean_root(total: u64, count: u64) -> u64 {
-    let total = near_float(total.cast_signed());
+    let total = if total < 1 << 32 {
+        f64::from(total as u32)
+    } else {
+        near_float(total.cast_signed())
+    };
     let count = f64::from((count & 0xffff_ffff) as u32);
-    near_floor((65536.0 * total / count).sqrt())
+    near_256ths((total / count).sqrt())
 }
 
 /// Whether a number is found to be that root: by squares, without a division.

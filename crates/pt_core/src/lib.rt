@@ -30,7 +30,7 @@ pub use floor::{div_floor, round_unit};
 pub use gate::{Gate, NoGate};
 pub use inputs::Inputs;
 pub use limits::{LONGEST_SIDE, MOST_STEPS};
-pub use near::{near_float, near_floor, near_whole};
+pub use near::{near_256ths, near_float, near_whole};
 pub use outline::{end_of, pieces_at, start_of};
 pub use path::{Path, Sign};
 pub use piece::Piece;

@@ -10,9 +10,12 @@ const FRACTION_BITS: u32 = 52;
 /// 2^52: from here on the bits of the fraction count whole numbers.
 const WHOLES: f64 = 4503599627370496.0;
 
-/// A number less this, rounded to the nearest whole number, is the number rounded down, but for numbers that lack 1 / 2^20 or
-/// less to the next whole one.
-const NEARLY_HALF: f64 = 0.5 - 1.0 / 1048576.0;
+/// 2^44: from here on they count 256ths.
+const WHOLE_256THS: f64 = 17592186044416.0;
+
+/// A number less this, rounded to the nearest 256th, is the number rounded down to one, but for numbers that lack 1 / 2^28 or
+/// less to the next one.
+const NEARLY_HALF: f64 = (0.5 - 1.0 / 1048576.0) / 256.0;
 
 /// A number in floating point, rounded.
 //
@@ -31,17 +34,26 @@ pub fn near_float(number: i64) -> f64 {
 pub fn near_whole(number: f64) -> u64
     ensures { result < 2 ^ 52 }
 {
-    let sum = WHOLES + number;
-    if sum.is_nan() {
-        return 0;
-    }
-    sum.to_bits() % (1 << FRACTION_BITS)
+    fraction_of(WHOLES + number)
 }
 
-/// Such a number rounded down, but for those that nearly reach the next whole one.
+/// How many 256ths a number from 0 to 2^44 has, but for those that nearly reach one more. Of all others it is some whole number.
+//
+// The sum with 2^44 is rounded to a 256th, so that nothing is multiplied by 256.
 #[inline(always)]
-pub fn near_floor(number: f64) -> u64
+pub fn near_256ths(number: f64) -> u64
     ensures { result < 2 ^ 52 }
 {
-    near_whole(number - NEARLY_HALF)
+    fraction_of(WHOLE_256THS + (number - NEARLY_HALF))
+}
+
+/// The bits of a number's fraction.
+#[inline(always)]
+fn fraction_of(number: f64) -> u64
+    ensures { result < 2 ^ 52 }
+{
+    if number.is_nan() {
+        return 0;
+    }
+    number.to_bits() % (1 << FRACTION_BITS)
 }
