@@ -1,7 +1,7 @@
 """One timer for all measurements, and one statistic: the median of several runs of all programs in turn.
 
 A run gives the seconds that pass and the processor seconds, of user and system together. Each is kept as a line of a raw
-file, `ROW: WHO: 0.0467 s, processor 0.0458 s`. Memory is that of one run more, asked of Debian's `time`: a process counts
+file, `ROW: WHO: 0.046712 s, processor 0.045831 s`. Memory is that of one run more, asked of Debian's `time`: a process counts
 the memory of the one that it was split off from, and `time` is small. It needs python3.
 """
 import collections
@@ -81,7 +81,7 @@ def in_turn(row, programs, runs, raw, page=os.devnull, documents=None, after=lam
         for name, words in programs.items():
             run = timed(words, page, documents[name] if documents else os.devnull)
             taken[name].append(run)
-            raw.append(f"{row}: {name}: {run.time:.4f} s, processor {run.processor:.4f} s")
+            raw.append(f"{row}: {name}: {run.time:.6f} s, processor {run.processor:.6f} s")
             after(name)
     return {name: Taken(*map(statistics.median, zip(*all_runs))) for name, all_runs in taken.items()}
 
