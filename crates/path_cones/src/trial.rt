@@ -132,6 +132,8 @@ fn by_sign(sign: i64, number: i64) -> i64
 // far it goes across a way to both sides, and where that is no more than the breadth it is a strip. The price: a strip
 // is no longer than its numbers say, and on ragged rims it holds two or three points, so that two points of five lie in
 // none.
+//
+// The cone is lent, so that it isn't copied from where the scan before left it.
 #[inline(never)]
 pub fn strip_from(track: &Track, first: usize, steps: usize, cone: &Cone) -> Option<Strip>
     requires subpath { IsSubpath track.now first steps }

@@ -13,9 +13,9 @@ const WHOLES: f64 = 4503599627370496.0;
 /// 2^44: from here on they count 256ths.
 const WHOLE_256THS: f64 = 17592186044416.0;
 
-/// A number less this, rounded to the nearest 256th, is the number rounded down to one, but for numbers that lack 1 / 2^28 or
-/// less to the next one.
-const NEARLY_HALF: f64 = (0.5 - 1.0 / 1048576.0) / 256.0;
+/// Nearly half of a 256th. A number less this, rounded to the nearest 256th, is the number rounded down to one, but for numbers
+/// that lack 1 / 2^28 or less to the next one.
+const NEARLY_HALF_256TH: f64 = (0.5 - 1.0 / 1048576.0) / 256.0;
 
 /// A number in floating point, rounded.
 //
@@ -37,14 +37,15 @@ pub fn near_whole(number: f64) -> u64
     fraction_of(WHOLES + number)
 }
 
-/// How many 256ths a number from 0 to 2^44 has, but for those that nearly reach one more. Of all others it is some whole number.
+/// How many 256ths a number from 1/1024 to 2^44 has, but for those that nearly reach one more. Of all others it is some whole
+/// number.
 //
 // The sum with 2^44 is rounded to a 256th, so that nothing is multiplied by 256.
 #[inline(always)]
 pub fn near_256ths(number: f64) -> u64
     ensures { result < 2 ^ 52 }
 {
-    fraction_of(WHOLE_256THS + (number - NEARLY_HALF))
+    fraction_of(WHOLE_256THS + (number - NEARLY_HALF_256TH))
 }
 
 /// The bits of a number's fraction.
