@@ -11,7 +11,7 @@ use Rattle.pt_core.specs.declared.point.Point.{Point}
 use Rattle.pt_core.specs.ClosedWalk.{origin}
 use Rattle.pt_core.specs.Floor.{floor_of, rounded}
 use Rattle.pt_core.specs.Outlines.{end_of, start_from, outline_at}
-use Rattle.pt_core.proofs.Rounding.{rounded_most}
+use Rattle.pt_core.proofs.FloorDivision.{rounded_most}
 use Rattle.pt_core.proofs.Sizes.{product_most, quotient_most}
 use Rattle.dxf_geojson.specs.Chords.{mean_of, mean_point, curve_point, curve_points, piece_points, points_from, chord_points}
 use Rattle.document_readings.specs.Places.{IsPointInReach, IsPieceInReach, AreInReach}

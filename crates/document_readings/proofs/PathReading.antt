@@ -15,7 +15,7 @@ use Rattle.pt_core.specs.ClosedWalk.{origin}
 use Rattle.pt_core.specs.Floor.{rounded}
 use Rattle.pt_core.specs.Outlines.{end_of, start_from}
 use Rattle.pt_core.specs.UnitText.{place_text, step_text}
-use Rattle.pt_core.proofs.Rounding.{rounded_most}
+use Rattle.pt_core.proofs.FloorDivision.{rounded_most}
 use Rattle.outline_pen.specs.Shapes.{line_text, curve_text, piece_text, pieces_text, outline_text, more_text}
 use Rattle.svg_backend.specs.SvgText.{svg_mark}
 use Rattle.document_readings.proofs.Digits.{by_first_digit}

@@ -2,7 +2,7 @@
 use Rattle.std.proofs.Common.{◌≡◌, ℤ, pos, ◌+ℤ◌, ◌*ℤ◌, arith}
 use Rattle.std.proofs.lemmas.Int.{ints}
 use Rattle.pt_core.specs.Floor.{IsFloor, floor_of}
-use Rattle.pt_core.proofs.Rounding.{floor_is}
+use Rattle.pt_core.proofs.FloorDivision.{floor_is}
 
 halves_one : (a q r move : ℤ) → IsFloor a (pos 2) q → IsFloor (a +ℤ pos 2 *ℤ move) (pos 2) r → r ≡ q +ℤ move
 halves_one a q r move is moved = (let f = is.reaches in let g = is.falls_short in let h = moved.reaches in let k = moved.falls_short in omega (arith, ints))

@@ -16,8 +16,8 @@ use Rattle.pt_core.specs.declared.point.Point.{Point}
 use Rattle.pt_core.specs.declared.polygon.Polygon.{Polygon}
 use Rattle.pt_core.specs.declared.settings.Settings.{Settings}
 use Rattle.pt_core.specs.declared.trace.Trace.{Trace}
-use Rattle.pt_core.proofs.Appending.{any_default}
-use Rattle.pt_core.proofs.Rounding.{floor_is}
+use Rattle.pt_core.proofs.AppendedTexts.{any_default}
+use Rattle.pt_core.proofs.FloorDivision.{floor_is}
 use Rattle.pt_core.proofs.Terms.{same_value}
 use Rattle.pt_core.proofs.Terms.Term.{num, plus, less, times, opposite}
 use Rattle.bit_image.specs.Page.{IsPage, Page}

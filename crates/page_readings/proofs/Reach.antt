@@ -19,7 +19,7 @@ use Rattle.pt_core.specs.ClosedWalk.{origin, point_at}
 use Rattle.pt_core.specs.Floor.{floor_of}
 use Rattle.pt_core.specs.OnPage.{AreOnPage, IsOnPage}
 use Rattle.pt_core.specs.Outlines.{end_of}
-use Rattle.pt_core.proofs.Appending.{any_default}
+use Rattle.pt_core.proofs.AppendedTexts.{any_default}
 use Rattle.pt_core.proofs.Sizes.{product_most, quotient_most}
 use Rattle.bit_image.specs.Page.{IsPage, Page}
 use Rattle.vertex_adjust.specs.Vertex.{AreVertices, IsCandidate, moved}

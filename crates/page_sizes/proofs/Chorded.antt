@@ -14,7 +14,7 @@ use Rattle.pt_core.specs.declared.piece.Piece.TheVariants.{Corner, Curve}
 use Rattle.pt_core.specs.declared.point.Point.{Point}
 use Rattle.pt_core.specs.declared.trace.Group.{Group}
 use Rattle.pt_core.specs.declared.trace.Trace.{Trace}
-use Rattle.pt_core.proofs.Rounding.{rounded_most}
+use Rattle.pt_core.proofs.FloorDivision.{rounded_most}
 use Rattle.turn_policies.specs.Majority.{sum_below}
 use Rattle.path_tree.specs.Groups.{groups_of}
 use Rattle.dxf_geojson.specs.Chords.{chord_points, piece_points, points_from}

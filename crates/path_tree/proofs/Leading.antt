@@ -7,7 +7,7 @@ use Rattle.std.proofs.Math.Seq.{drop-cons}
 use Rattle.std.proofs.lemmas.Bool.{cases_eq, cases_lt, false≢true, lt-ltb, le-ltb, ltb-true}
 use Rattle.std.proofs.lemmas.List.{drop_all, length-set, length-drop, get_or-drop}
 use Rattle.std.proofs.lemmas.List.FromFn.{get_or-range_with_len, length-range_with_len}
-use Rattle.pt_core.proofs.Appending.{any_default}
+use Rattle.pt_core.proofs.AppendedTexts.{any_default}
 use Rattle.path_tree.specs.declared.starts.PathStart.{PathStart}
 use Rattle.path_tree.specs.Inner.Free.{AreFree, AreSkips, LeadPast, StandBefore, has_holder, no_start}
 use Rattle.path_tree.specs.Inner.Starts.{is_in_span, marked, marked_one}

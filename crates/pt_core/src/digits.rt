@@ -1,4 +1,4 @@
-//! Numbers in texts.
+//! Appending numbers to texts.
 ghost use Rattle.std.specs.Prelude.{◌≡◌, ◌++◌, OnOk, OnErr};
 ghost use Rattle.pt_core.specs.FixedText.{fixed_text};
 
@@ -6,7 +6,8 @@ use crate::fault::NoMemory;
 use crate::written::write_fixed;
 use itoa::{Buffer, Integer};
 
-/// Appends a whole number in decimal digits, with `-` before it where it is negative, or nothing.
+/// Appends a whole number in decimal digits, with `-` before it if it is negative. If memory runs out, nothing
+/// is appended.
 pub fn put_number<I: Integer>(out: &mut Vec<u8>, number: I) -> Result<(), NoMemory>
     ensures appended { OnOk result (out.new.items ≡ out.old.items ++ I.text number) }
     ensures nothing { OnErr result (out.new.items ≡ out.old.items) }
@@ -16,7 +17,8 @@ pub fn put_number<I: Integer>(out: &mut Vec<u8>, number: I) -> Result<(), NoMemo
     Ok(())
 }
 
-/// Appends a number of thousandths as one with three decimals, as `-0.500`, or nothing.
+/// Appends a number of thousandths with three decimals: -500 as `-0.500`. If memory runs out, nothing is
+/// appended.
 pub fn put_fixed(out: &mut Vec<u8>, thousandths: i64) -> Result<(), NoMemory>
     ensures appended { OnOk result (out.new.items ≡ out.old.items ++ fixed_text thousandths) }
     ensures nothing { OnErr result (out.new.items ≡ out.old.items) }

@@ -1,4 +1,5 @@
-//! What each part of the tracer speaks of: points and paths, whole numbers rounded and as text, and the outside world as traits.
+//! Types and traits that all parts of the tracer share: points and paths, rounding, numbers as text, and the
+//! outside world.
 #![tactic(auto)]
 
 pub mod backend;

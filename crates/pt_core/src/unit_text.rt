@@ -1,4 +1,4 @@
-//! Places in texts, in units of which a pixel has so many.
+//! Points as text, in units of 1/`unit` pixel.
 ghost use Rattle.std.specs.Prelude.{◌≡◌, ◌+◌, ◌≤◌, ◌++◌, ◌-ℤ◌, ◌^◌, length, drop, unsigned_abs, OnOk, OnErr};
 ghost use Rattle.pt_core.specs.Floor.{rounded};
 ghost use Rattle.pt_core.specs.UnitText.{place_text, step_text};
@@ -8,7 +8,7 @@ use crate::floor::round_unit;
 use crate::point::Point;
 use crate::written::write_pair;
 
-/// Appends a point's coordinates in units, or nothing.
+/// Appends a point's coordinates, rounded to units. If memory runs out, nothing is appended.
 pub fn put_place(out: &mut Vec<u8>, unit: u32, at: Point) -> Result<(), NoMemory>
     requires some { 1 ≤ unit }
     requires most { unit ≤ 1000 }
@@ -21,7 +21,8 @@ pub fn put_place(out: &mut Vec<u8>, unit: u32, at: Point) -> Result<(), NoMemory
     Ok(())
 }
 
-/// Writes a point's coordinates in units so that they end at `end` of the buffer.
+/// Writes a point's coordinates, rounded to units, so that the text ends at `end` of the buffer. Returns where
+/// the text begins.
 fn write_place(unit: u32, at: Point, text: &mut [u8], end: usize) -> usize
     requires some { 1 ≤ unit }
     requires most { unit ≤ 1000 }
@@ -33,7 +34,8 @@ fn write_place(unit: u32, at: Point, text: &mut [u8], end: usize) -> usize
     write_pair(in_units(at.x, unit), in_units(at.y, unit), text, end)
 }
 
-/// Writes how far `to` lies from `from` in units, after both are rounded, so that it ends at `end` of the buffer.
+/// Writes the step from `from` to `to`, each rounded to units, so that the text ends at `end` of the buffer.
+/// Returns where the text begins.
 #[inline(always)]
 pub fn write_step(unit: u32, from: Point, to: Point, text: &mut [u8], end: usize) -> usize
     requires some { 1 ≤ unit }
@@ -52,7 +54,7 @@ pub fn write_step(unit: u32, from: Point, to: Point, text: &mut [u8], end: usize
     )
 }
 
-/// How far one coordinate lies from another in units, after both are rounded.
+/// The difference `to` - `from`, each rounded to units.
 #[inline(always)]
 fn difference(from: i32, to: i32, unit: u32) -> i64
     requires some { 1 ≤ unit }
@@ -63,7 +65,7 @@ fn difference(from: i32, to: i32, unit: u32) -> i64
     in_units(to, unit) - in_units(from, unit)
 }
 
-/// A coordinate in units.
+/// A coordinate in 1/1024 pixel, rounded to units.
 #[inline(always)]
 fn in_units(c: i32, unit: u32) -> i64
     requires some { 1 ≤ unit }

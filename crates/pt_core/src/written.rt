@@ -1,12 +1,13 @@
-//! Texts that are written from the end of a buffer on, before what stands there already, so that several go into a
-//! document in one copy. Each call gives where the text begins.
+//! Texts that are written into a buffer from its end towards its beginning, each before the text that is
+//! already there. Several of them can then be copied into a document at once. Each function returns where its
+//! text begins.
 ghost use Rattle.std.specs.Prelude.{◌≡◌, ◌+◌, ◌<◌, ◌≤◌, ◌∷◌, ◌++◌, codes, length, drop};
 ghost use Rattle.std.specs.Fmt.{signed_decimal};
 ghost use Rattle.pt_core.specs.FixedText.{decimals_text, digit, fixed_text};
 
 use itoa::write_digits;
 
-/// Writes these bytes so that they end at `end`.
+/// Writes `bytes` so that they end at `end`, and returns where they begin.
 #[inline(always)]
 pub fn write_text(bytes: &[u8], text: &mut [u8], end: usize) -> usize
     requires room { length bytes.now ≤ end }
@@ -19,7 +20,8 @@ pub fn write_text(bytes: &[u8], text: &mut [u8], end: usize) -> usize
     start
 }
 
-/// Writes a number of thousandths as one with three decimals, as `-0.500`, so that it ends at `end`.
+/// Writes a number of thousandths with three decimals, as -500 is `-0.500`, so that it ends at `end`. Returns
+/// where it begins.
 pub fn write_fixed(thousandths: i64, text: &mut [u8], end: usize) -> usize
     requires room { 25 ≤ end }
     requires within { end ≤ length text.old }
@@ -37,7 +39,7 @@ pub fn write_fixed(thousandths: i64, text: &mut [u8], end: usize) -> usize
     }
 }
 
-/// Writes a point and three digits so that they end at `end`.
+/// Writes a decimal point and three digits so that they end at `end`. Returns where they begin.
 #[inline(always)]
 fn write_decimals(number: u64, text: &mut [u8], end: usize) -> usize
     requires few { number < 1000 }
@@ -52,7 +54,7 @@ fn write_decimals(number: u64, text: &mut [u8], end: usize) -> usize
     write_before(b'.', text, start)
 }
 
-/// The digit for a number below ten.
+/// The digit of a number below ten.
 fn digit(number: u64) -> u8
     requires { number < 10 }
     ensures { result ≡ digit number }
@@ -60,7 +62,7 @@ fn digit(number: u64) -> u8
     b'0' + number as u8
 }
 
-/// Writes two whole numbers with a space between so that they end at `end`.
+/// Writes two whole numbers with a space between them so that they end at `end`. Returns where they begin.
 #[inline(always)]
 pub(crate) fn write_pair(first: i64, second: i64, text: &mut [u8], end: usize) -> usize
     requires room { 43 ≤ end }
@@ -75,7 +77,8 @@ pub(crate) fn write_pair(first: i64, second: i64, text: &mut [u8], end: usize) -
     write_signed(first, text, start)
 }
 
-/// Writes a whole number in decimal digits, with `-` before it where it is negative, so that it ends at `end`.
+/// Writes a whole number in decimal digits, with `-` before it if it is negative, so that it ends at `end`.
+/// Returns where it begins.
 fn write_signed(whole: i64, text: &mut [u8], end: usize) -> usize
     requires room { 21 ≤ end }
     requires within { end ≤ length text.old }
@@ -91,7 +94,7 @@ fn write_signed(whole: i64, text: &mut [u8], end: usize) -> usize
     }
 }
 
-/// Writes a byte before `end`.
+/// Writes a byte just before `end`, and returns its index.
 fn write_before(byte: u8, text: &mut [u8], end: usize) -> usize
     requires room { 1 ≤ end }
     requires within { end ≤ length text.old }

@@ -1,4 +1,4 @@
-use Rattle.pt_core.proofs.Appending.{three}
+use Rattle.pt_core.proofs.AppendedTexts.{three}
 use Rattle.dxf_geojson.proofs.drawing.put_polyline.Goals as goal
 
 pub returns : goal.returns

@@ -1,5 +1,5 @@
 use Rattle.std.proofs.Common.{sym}
-use Rattle.pt_core.proofs.Appending.{one_more}
+use Rattle.pt_core.proofs.AppendedTexts.{one_more}
 use Rattle.dxf_geojson.specs.DxfText.{polyline_text}
 use Rattle.dxf_geojson.proofs.drawing.put_polylines.Goals as goal
 

@@ -1,4 +1,4 @@
-use Rattle.pt_core.proofs.Appending.{one_more_read}
+use Rattle.pt_core.proofs.AppendedTexts.{one_more_read}
 use Rattle.dxf_geojson.specs.DxfText.{vertex_text}
 use Rattle.dxf_geojson.proofs.drawing.put_vertices.Goals as goal
 

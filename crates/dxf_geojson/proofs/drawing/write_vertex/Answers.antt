@@ -1,7 +1,7 @@
 use Rattle.std.proofs.Common.{◌≤◌, ◌++◌, codes, drop, length, rules, w32}
 use Rattle.std.proofs.lemmas.Int.{to_z-of_z}
 use Rattle.std.specs.Int.RustNames.{FitsSigned}
-use Rattle.pt_core.proofs.Appending.{at_end, joined}
+use Rattle.pt_core.proofs.AppendedTexts.{at_end, joined}
 use Rattle.dxf_geojson.specs.DxfText.{pixels_text}
 use Rattle.dxf_geojson.proofs.drawing.write_vertex.Goals as goal
 

@@ -1,6 +1,6 @@
 use Rattle.std.proofs.Common.{◌++◌, codes}
 use Rattle.pt_core.specs.declared.point.Point.{Point}
-use Rattle.pt_core.proofs.Appending.{one_more_read}
+use Rattle.pt_core.proofs.AppendedTexts.{one_more_read}
 use Rattle.dxf_geojson.specs.GeoJsonText.{position_text}
 use Rattle.dxf_geojson.proofs.features.put_positions.Goals as goal
 

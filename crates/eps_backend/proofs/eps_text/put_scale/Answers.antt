@@ -1,4 +1,4 @@
-use Rattle.pt_core.proofs.Appending.{three}
+use Rattle.pt_core.proofs.AppendedTexts.{three}
 use Rattle.eps_backend.proofs.eps_text.put_scale.Goals as goal
 
 pub returns : goal.returns

@@ -1,5 +1,5 @@
 use Rattle.std.proofs.Common.{◌≤◌, rules, length}
-use Rattle.pt_core.proofs.Appending.{joined, at_end}
+use Rattle.pt_core.proofs.AppendedTexts.{joined, at_end}
 use Rattle.outline_pen.proofs.strokes.write_curve.Goals as goal
 
 pub returns-clause-written : goal.returns-clause-written

@@ -1,5 +1,5 @@
 use Rattle.std.proofs.Common.{◌≤◌, ◌++◌, drop, rules, length}
-use Rattle.pt_core.proofs.Appending.{joined, at_end}
+use Rattle.pt_core.proofs.AppendedTexts.{joined, at_end}
 use Rattle.outline_pen.specs.Shapes.{line_text}
 use Rattle.outline_pen.proofs.strokes.write_piece.Goals as goal
 

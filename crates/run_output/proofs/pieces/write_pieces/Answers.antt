@@ -1,5 +1,5 @@
 use Rattle.std.proofs.Common.{List, ℕ, Bor, ◌∙◌}
-use Rattle.pt_core.proofs.Appending.{on_err}
+use Rattle.pt_core.proofs.AppendedTexts.{on_err}
 use Rattle.run_output.proofs.Saying.{piece_cut, piece_said}
 use Rattle.run_output.proofs.pieces.write_pieces.Goals as goal
 

@@ -1,4 +1,4 @@
-use Rattle.pt_core.proofs.Appending.{three}
+use Rattle.pt_core.proofs.AppendedTexts.{three}
 use Rattle.svg_backend.proofs.svg_text.put_group_head.Goals as goal
 
 pub returns : goal.returns

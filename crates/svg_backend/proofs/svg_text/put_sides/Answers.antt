@@ -1,4 +1,4 @@
-use Rattle.pt_core.proofs.Appending.{two}
+use Rattle.pt_core.proofs.AppendedTexts.{two}
 use Rattle.svg_backend.proofs.svg_text.put_sides.Goals as goal
 
 pub returns : goal.returns

@@ -1,4 +1,4 @@
-use Rattle.pt_core.proofs.Appending.{four}
+use Rattle.pt_core.proofs.AppendedTexts.{four}
 use Rattle.svg_backend.proofs.svg_text.put_size.Goals as goal
 
 pub returns : goal.returns

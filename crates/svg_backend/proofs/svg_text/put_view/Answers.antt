@@ -1,4 +1,4 @@
-use Rattle.pt_core.proofs.Appending.{two, four}
+use Rattle.pt_core.proofs.AppendedTexts.{two, four}
 use Rattle.svg_backend.proofs.svg_text.put_view.Goals as goal
 
 pub returns : goal.returns

@@ -1,4 +1,4 @@
-use Rattle.pt_core.proofs.Appending.{four}
+use Rattle.pt_core.proofs.AppendedTexts.{four}
 use Rattle.dxf_geojson.proofs.features.Lines.put_feature.Goals as goal
 
 pub returns : goal.returns

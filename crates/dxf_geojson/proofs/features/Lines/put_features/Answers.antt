@@ -1,5 +1,5 @@
 use Rattle.std.proofs.Common.{◌≡◌, ◌∷◌}
-use Rattle.pt_core.proofs.Appending.{three}
+use Rattle.pt_core.proofs.AppendedTexts.{three}
 use Rattle.dxf_geojson.proofs.features.Lines.put_features.Goals as goal
 
 pub returns-in_ok-extend_from_slice : goal.returns-in_ok-extend_from_slice

@@ -1,6 +1,6 @@
 use Rattle.std.proofs.Common.{ℕ}
 use Rattle.pt_core.specs.Outlines.{outline_at}
-use Rattle.pt_core.proofs.Appending.{one_more_read}
+use Rattle.pt_core.proofs.AppendedTexts.{one_more_read}
 use Rattle.dxf_geojson.specs.GeoJsonText.{hole_text}
 use Rattle.dxf_geojson.proofs.features.Lines.put_holes.Goals as goal
 

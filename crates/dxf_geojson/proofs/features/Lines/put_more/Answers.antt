@@ -1,5 +1,5 @@
 use Rattle.std.proofs.Common.{◌++◌, codes, sym}
-use Rattle.pt_core.proofs.Appending.{one_more, two}
+use Rattle.pt_core.proofs.AppendedTexts.{one_more, two}
 use Rattle.dxf_geojson.specs.GeoJsonText.{feature_text}
 use Rattle.dxf_geojson.proofs.features.Lines.put_more.Goals as goal
 
