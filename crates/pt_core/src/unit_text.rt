@@ -21,8 +21,8 @@ pub fn put_place(out: &mut Vec<u8>, unit: u32, at: Point) -> Result<(), NoMemory
     Ok(())
 }
 
-/// Writes a point's coordinates, rounded to units, so that the text ends at `end` of the buffer. Returns where
-/// the text begins.
+/// Writes a point's coordinates, rounded to units, so that the text ends at `end` of the buffer. Returns the
+/// index of its first byte.
 fn write_place(unit: u32, at: Point, text: &mut [u8], end: usize) -> usize
     requires some { 1 ≤ unit }
     requires most { unit ≤ 1000 }
@@ -35,7 +35,7 @@ fn write_place(unit: u32, at: Point, text: &mut [u8], end: usize) -> usize
 }
 
 /// Writes the step from `from` to `to`, each rounded to units, so that the text ends at `end` of the buffer.
-/// Returns where the text begins.
+/// Returns the index of its first byte.
 #[inline(always)]
 pub fn write_step(unit: u32, from: Point, to: Point, text: &mut [u8], end: usize) -> usize
     requires some { 1 ≤ unit }

@@ -1,13 +1,13 @@
 //! Texts that are written into a buffer from its end towards its beginning, each before the text that is
-//! already there. Several of them can then be copied into a document at once. Each function returns where its
-//! text begins.
+//! already there. Several of them can then be copied into a document at once. Each function returns the index
+//! of its text's first byte.
 ghost use Rattle.std.specs.Prelude.{◌≡◌, ◌+◌, ◌<◌, ◌≤◌, ◌∷◌, ◌++◌, codes, length, drop};
 ghost use Rattle.std.specs.Fmt.{signed_decimal};
 ghost use Rattle.pt_core.specs.FixedText.{decimals_text, digit, fixed_text};
 
 use itoa::write_digits;
 
-/// Writes `bytes` so that they end at `end`, and returns where they begin.
+/// Writes `bytes` so that they end at `end`, and returns the index of their first byte.
 #[inline(always)]
 pub fn write_text(bytes: &[u8], text: &mut [u8], end: usize) -> usize
     requires room { length bytes.now ≤ end }
@@ -21,7 +21,7 @@ pub fn write_text(bytes: &[u8], text: &mut [u8], end: usize) -> usize
 }
 
 /// Writes a number of thousandths with three decimals, as -500 is `-0.500`, so that it ends at `end`. Returns
-/// where it begins.
+/// the index of its first byte.
 pub fn write_fixed(thousandths: i64, text: &mut [u8], end: usize) -> usize
     requires room { 25 ≤ end }
     requires within { end ≤ length text.old }
@@ -39,7 +39,7 @@ pub fn write_fixed(thousandths: i64, text: &mut [u8], end: usize) -> usize
     }
 }
 
-/// Writes a decimal point and three digits so that they end at `end`. Returns where they begin.
+/// Writes a decimal point and three digits so that they end at `end`. Returns the index of their first byte.
 #[inline(always)]
 fn write_decimals(number: u64, text: &mut [u8], end: usize) -> usize
     requires few { number < 1000 }
@@ -62,7 +62,7 @@ fn digit(number: u64) -> u8
     b'0' + number as u8
 }
 
-/// Writes two whole numbers with a space between them so that they end at `end`. Returns where they begin.
+/// Writes two whole numbers with a space between them so that they end at `end`. Returns the index of their first byte.
 #[inline(always)]
 pub(crate) fn write_pair(first: i64, second: i64, text: &mut [u8], end: usize) -> usize
     requires room { 43 ≤ end }
@@ -78,7 +78,7 @@ pub(crate) fn write_pair(first: i64, second: i64, text: &mut [u8], end: usize) -
 }
 
 /// Writes a whole number in decimal digits, with `-` before it if it is negative, so that it ends at `end`.
-/// Returns where it begins.
+/// Returns the index of its first byte.
 fn write_signed(whole: i64, text: &mut [u8], end: usize) -> usize
     requires room { 21 ≤ end }
     requires within { end ≤ length text.old }

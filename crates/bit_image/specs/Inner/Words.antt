@@ -1,4 +1,5 @@
--- How a bitmap keeps its pixels: 64 in a word, the least significant bit leftmost, and row after row from the lowest up.
+-- How a bitmap stores its pixels: 64 in a word, the least significant bit leftmost, and the rows one after another
+-- from the lowest up.
 use Rattle.std.specs.Prelude.{◌≡◌, ℕ, ◌+◌, ◌*◌, ◌/◌, ◌%◌, ◌≤◌, ◌<◌, Bool, false, List, length, take, drop, slice_index_or}
 use Rattle.pt_core.specs.declared.limits.TheConstants.{LONGEST_SIDE}
 use Rattle.bit_image.specs.Image.{Image}
@@ -8,15 +9,15 @@ use Rattle.bit_image.specs.Words.{is_one}
 unfoldable pub black_in : List ℕ → ℕ → Bool
 black_in row x = is_one (slice_index_or row (x / 64) 0) (x % 64)
 
--- the words of row y, where a row has `stride` words
+-- the words of row y, if a row has `stride` words
 abbrev pub row_of : ℕ → List ℕ → ℕ → List ℕ
 row_of stride words y = take stride (drop (y * stride) words)
 
--- the pixels that the words keep
+-- the image that the words store
 abbrev pub pixels_of : ℕ → List ℕ → Image
 pixels_of stride words x y = black_in (row_of stride words y) x
 
--- both sides are 1 to the longest one, a row has as few words as hold its pixels, and bits past the width are 0
+-- both sides are 1 to `LONGEST_SIDE`, a row has just enough words, and bits beyond the width are 0
 pub record IsPacked (width height stride : ℕ) (words : List ℕ) : Type 0 where
   pub some_width : 1 ≤ width
   pub most_width : width ≤ LONGEST_SIDE

@@ -1,4 +1,4 @@
--- Fewer than eight bytes are read, and 0 for those past the end.
+-- Fewer than eight bytes are read; the others are 0.
 use Rattle.std.proofs.Common.{refl}
 use Rattle.bit_image.proofs.Bytes.{is_one-word_at, eight_past}
 use Rattle.bit_image.proofs.packing.last_word.Goals as goal

@@ -1,4 +1,4 @@
--- One word more is put, and then the one that the bytes end in.
+-- The whole words are written first, and then the word in which the bytes end.
 use Rattle.std.proofs.Common.{length, ◌/◌, length-set, ap, ◌∙◌, arith}
 use Rattle.bit_image.specs.Words.{bit_in}
 use Rattle.bit_image.proofs.Bytes.{black_in-set_word}
