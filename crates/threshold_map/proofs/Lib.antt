@@ -1,2 +1,3 @@
+-- Examples of black levels, and the brightest black samples.
 mod Examples
 pub mod Limits

@@ -1,5 +1,5 @@
--- The brightest sample that is black: a whole number is at most a quotient exactly where it is at most
--- the quotient rounded down.
+-- The brightest black sample: a whole number is at most a quotient exactly if it is at most the quotient
+-- rounded down.
 use Rattle.std.proofs.Common.{◌≡◌, ℕ, ◌*◌, ◌/◌, ◌≤◌, ◌<◌, inl, inr, nat_le, arith, sym, ◌∙◌}
 use Rattle.std.proofs.lemmas.Bool.{cases_lt, le-leb, lt-leb}
 

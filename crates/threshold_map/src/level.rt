@@ -4,13 +4,13 @@ ghost use Rattle.threshold_map.specs.Levels.{is_gray_black, is_color_black};
 
 use std::marker::Model;
 
-/// The greatest sample of a colour that is compared.
+/// The greatest sample of a colour that `Level::color` compares: 2^30.
 pub const GREATEST_SAMPLE: u32 = 1073741824;
 
-/// The brightness, as a part of full white, up to which a pixel is black.
+/// A black level: a fraction of full white. A pixel is black if its brightness is at most the level.
 #[derive(Clone, Copy, Debug)]
 pub struct Level {
-    // In millionths.
+    // In millionths of full white.
     micro: u32,
 }
 
@@ -27,7 +27,7 @@ impl Model for Level {
 }
 
 impl Level {
-    /// The level of so many millionths.
+    /// The level of `k6` millionths of full white.
     pub fn from_micro(k6: u32) -> Level
         requires { k6 ≤ 1000000 }
         ensures { result ≡ k6 }
@@ -35,7 +35,7 @@ impl Level {
         Level { micro: k6 }
     }
 
-    /// Whether a gray pixel is black: a sample of 0 is no light, and `maxval` is full white.
+    /// Whether a gray pixel is black. `v` is its sample, 0 is no light, and `maxval` is full white.
     pub fn gray(&self, v: u32, maxval: u32) -> bool
         requires some { 1 ≤ maxval }
         requires most { maxval ≤ 65535 }
@@ -45,7 +45,7 @@ impl Level {
         v as u64 * 1000000 <= self.micro as u64 * maxval as u64
     }
 
-    /// The brightest sample of a gray pixel that is black, where `maxval` is full white.
+    /// The brightest sample of a black gray pixel, if `maxval` is full white.
     pub fn gray_limit(&self, maxval: u32) -> u32
         requires some { 1 ≤ maxval }
         requires most { maxval ≤ 65535 }
@@ -55,8 +55,8 @@ impl Level {
         (self.micro as u64 * maxval as u64 / 1000000) as u32
     }
 
-    /// Whether a pixel of a colour is black: its brightness is the mean of red, green and blue, and
-    /// `maxval` of each is full white.
+    /// Whether a pixel of a colour is black. Its brightness is the mean of red, green and blue, and `maxval` is
+    /// full white for each of them.
     pub fn color(&self, r: u32, g: u32, b: u32, maxval: u32) -> bool
         requires some { 1 ≤ maxval }
         requires most { maxval ≤ 65535 }
@@ -68,8 +68,7 @@ impl Level {
         (r as u64 + g as u64 + b as u64) * 1000000 <= self.micro as u64 * 3 * maxval as u64
     }
 
-    /// The greatest sum of red, green and blue of a pixel that is black, where `maxval` of each is
-    /// full white.
+    /// The greatest sum of red, green and blue of a black pixel, if `maxval` is full white for each of them.
     pub fn color_limit(&self, maxval: u32) -> u32
         requires some { 1 ≤ maxval }
         requires most { maxval ≤ 65535 }
@@ -80,7 +79,7 @@ impl Level {
         (self.micro as u64 * 3 * maxval as u64 / 1000000) as u32
     }
 
-    /// Whether a pixel of a colour of three bytes is black: 255 of each is full white.
+    /// Whether a pixel of a colour of three bytes is black. 255 is full white for each of them.
     pub fn rgb(&self, r: u8, g: u8, b: u8) -> bool
         ensures { result ≡ is_color_black self.now r g b 255 }
     {

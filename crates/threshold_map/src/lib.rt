@@ -1,8 +1,8 @@
-//! Which gray values and colours are black, at a black level (the potrace manual page, option
+//! Which gray values and colours are black at a given black level (the potrace manual page, option
 //! `--blacklevel`).
 //!
-//! A level is a part of full white, from 0 to 1. A pixel is black where its brightness, as a part
-//! of full white, isn't above the level; nothing is rounded.
+//! A level is a fraction of full white, from 0 to 1. A pixel is black if its brightness, as a fraction of full
+//! white, is at most the level. Nothing is rounded.
 //!
 //! ```text
 //!     black |###########################|                            | white
