@@ -1,9 +1,9 @@
--- The byte at a place of a text.
+-- The byte at an index of a text is the first byte of the rest from there on.
 use Rattle.std.proofs.Common.{◌≡◌, ℕ, ◌+◌, ◌<◌, inl, inr, drop, List, ◌∷◌, length, length-drop, get_or, ap, sym, ◌∙◌, arith}
 use Rattle.std.proofs.lemmas.List.{get_or-drop, get_or_past, drop_more}
 use Rattle.std.proofs.lemmas.Bool.{cases_lt}
 
--- the byte at a place of a text
+-- the first byte of the rest from `here` on is the text's byte at `here`
 pub front : (text : List ℕ) (here : ℕ) → get_or (drop here text) 0 0 ≡ get_or text here 0
 front text here = get_or-drop here text 0 0 ∙ ap (λ k. get_or text k 0) (let e : here + 0 ≡ here = omega arith in e)
 
@@ -17,7 +17,7 @@ not_byte text here byte some none same =
 pub is_byte : (text : List ℕ) (here byte : ℕ) → (here < length text) × (get_or text here 0 ≡ byte) → drop here text ≡ byte ∷ drop (here + 1) text
 is_byte text here byte there = drop_more text here 0 there.0 ∙ ap (λ b. b ∷ drop (here + 1) text) there.1
 
--- the byte that stands at the front there
+-- if the rest from `here` on begins with a byte, that is the text's byte at `here`
 pub byte_there : (text : List ℕ) (here byte : ℕ) (rest : List ℕ) → drop here text ≡ byte ∷ rest → (here < length text) × (get_or text here 0 ≡ byte)
 byte_there text here byte rest is =
     (omega (arith, ap length is, length-drop here text), sym (front text here) ∙ ap (λ l. get_or l 0 0) is)

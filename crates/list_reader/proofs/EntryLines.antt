@@ -1,4 +1,4 @@
--- Lines of a list text: the texts of values one after another, and a line feed.
+-- A text begins with at most one line of entries, and reading entry by entry finds it.
 use Rattle.std.proofs.Common.{◌≡◌, ℕ, ◌≤◌, List, [], ◌∷◌, ◌++◌, length, length-append, get_or, refl, ap, sym, ◌∙◌, subst, append_assoc, flat_map, arith}
 use Rattle.std.specs.List.{All}
 use Rattle.std.proofs.lemmas.Grind.{flat_map-append}
@@ -7,14 +7,14 @@ use Rattle.std.proofs.lemmas.List.Elements.{All-nil, All-cons, All-head, All-tai
 use Rattle.list_reader.specs.Inner.Numerals.{EndsDigits}
 use Rattle.list_reader.specs.Inner.LineTexts.{AreEntries, IsEntryLine, IsSomeLine}
 
--- some values of a line were read, and it goes on here
+-- the values xs of a line have been read, and `here` is what is left
 pub record IsReading (A : Type 0) (text : A → List ℕ) (IsIn : A → Type 0) (bytes : List ℕ) (xs : List A) (here : List ℕ) : Type 0 where
   pub is : bytes ≡ flat_map text xs ++ here
   pub all : All IsIn xs
   pub only : (ys : List A) (rest : List ℕ) → IsEntryLine A text IsIn bytes ys rest → (zs : List A) × (ys ≡ xs ++ zs) × IsEntryLine A text IsIn here zs rest
 
 module _ (A : Type 0) (text : A → List ℕ) (IsIn : A → Type 0) (entries : AreEntries A text IsIn) where
-  -- neither a space nor a line feed is a digit
+  -- an entry and a line feed don't begin with a digit
   pub front_ends : (xs : List A) (rest : List ℕ) → EndsDigits (flat_map text xs ++ 10 ∷ rest)
   front_ends [] rest digit = omega arith
   front_ends (x ∷ xs) rest digit =
@@ -30,7 +30,7 @@ module _ (A : Type 0) (text : A → List ℕ) (IsIn : A → Type 0) (entries : A
   pub first_entry : (x : A) (xs : List A) (rest : List ℕ) → flat_map text (x ∷ xs) ++ 10 ∷ rest ≡ text x ++ (flat_map text xs ++ 10 ∷ rest)
   first_entry x xs rest = append_assoc (text x) (flat_map text xs) (10 ∷ rest)
 
-  -- a text begins with one line
+  -- a text begins with at most one line
   pub one_line : (bytes : List ℕ) (xs ys : List A) (r s : List ℕ) → IsEntryLine A text IsIn bytes xs r → IsEntryLine A text IsIn bytes ys s → (xs ≡ ys) × (r ≡ s)
   one_line bytes [] [] r s a b = let e = sym a.is ∙ b.is in (refl, cc)
   one_line bytes [] (y ∷ ys) r s a b =
@@ -56,7 +56,7 @@ module _ (A : Type 0) (text : A → List ℕ) (IsIn : A → Type 0) (entries : A
   more_text : (xs : List A) (x : A) → flat_map text (xs ++ x ∷ []) ≡ flat_map text xs ++ text x
   more_text xs x = flat_map-append text xs (x ∷ []) ∙ ap (λ l. flat_map text xs ++ l) (append-nil (text x))
 
-  -- what follows a value
+  -- the line after its first value is a line again
   rest_of_line : (x : A) (here next : List ℕ) (zs : List A) (rest : List ℕ) → IsIn x → here ≡ text x ++ next → EndsDigits next → IsEntryLine A text IsIn here zs rest
       → (ws : List A) × (zs ≡ x ∷ ws) × IsEntryLine A text IsIn next ws rest
   rest_of_line x here next [] rest inside is ends line =
@@ -83,11 +83,11 @@ module _ (A : Type 0) (text : A → List ℕ) (IsIn : A → Type 0) (entries : A
             (ws, same ∙ ap (λ l. xs ++ l) begins ∙ sym (append_assoc xs (x ∷ []) ws), after);
       })
 
-  -- a line feed ends the line
+  -- a line feed after the values read ends the line
   pub reading_ends : (bytes : List ℕ) (xs : List A) (here rest : List ℕ) → here ≡ 10 ∷ rest → IsReading A text IsIn bytes xs here → IsEntryLine A text IsIn bytes xs rest
   reading_ends bytes xs here rest is so_far = record { is = so_far.is ∙ ap (λ l. flat_map text xs ++ l) is; all = so_far.all }
 
-  -- neither a value nor a line feed stands here: there is no line
+  -- if neither a space nor a line feed comes next, there is no line
   pub reading_stops : (bytes : List ℕ) (xs : List A) (here : List ℕ) → IsReading A text IsIn bytes xs here
       → ¬ (get_or here 0 0 ≡ 32) → ¬ (get_or here 0 0 ≡ 10)
       → (ys : List A) (rest : List ℕ) → ¬ IsEntryLine A text IsIn bytes ys rest
@@ -99,7 +99,7 @@ module _ (A : Type 0) (text : A → List ℕ) (IsIn : A → Type 0) (entries : A
       stops [] later = no_end (ap (λ l. get_or l 0 0) later.is)
       stops (z ∷ zs) later = no_space (ap (λ l. get_or l 0 0) later.is ∙ begins_spaced z zs rest)
 
-  -- no value can be read, and no line feed stands here
+  -- if neither a value nor a line feed comes next, there is no line
   pub reading_breaks : (bytes : List ℕ) (xs : List A) (here : List ℕ) → IsReading A text IsIn bytes xs here
       → ((x : A) (next : List ℕ) → IsIn x → EndsDigits next → here ≡ text x ++ next → ⊥) → ¬ (get_or here 0 0 ≡ 10)
       → (ys : List A) (rest : List ℕ) → ¬ IsEntryLine A text IsIn bytes ys rest
@@ -111,11 +111,11 @@ module _ (A : Type 0) (text : A → List ℕ) (IsIn : A → Type 0) (entries : A
       breaks [] later = no_end (ap (λ l. get_or l 0 0) later.is)
       breaks (z ∷ zs) later = none z (flat_map text zs ++ 10 ∷ rest) (All-head IsIn z zs later.all) (front_ends zs rest) (later.is ∙ first_entry z zs rest)
 
-  -- the same of lines with one value at least
+  -- a text begins with at most one line of one or more values
   pub one_some_line : (bytes : List ℕ) (xs ys : List A) (r s : List ℕ) → IsSomeLine A text IsIn bytes xs r → IsSomeLine A text IsIn bytes ys s → (xs ≡ ys) × (r ≡ s)
   one_some_line bytes xs ys r s a b = one_line bytes xs ys r s a.line b.line
 
-  -- no value was read, and none stands here: there is no line with one
+  -- if no value was read and no space comes next, there is no line of one or more values
   pub reading_empty : (bytes : List ℕ) (xs : List A) (here : List ℕ) → IsReading A text IsIn bytes xs here → length xs ≡ 0 → ¬ (get_or here 0 0 ≡ 32)
       → (ys : List A) (rest : List ℕ) → ¬ IsSomeLine A text IsIn bytes ys rest
   reading_empty bytes xs here so_far empty no_space ys rest line =

@@ -1,4 +1,4 @@
--- The definitions on the text `42,7`.
+-- The definitions, checked on the text `42,7`.
 use Rattle.std.proofs.Common.{◌≡◌, [], ◌∷◌, ◌++◌, codes, refl, ap, sym, arith}
 use Rattle.std.proofs.lemmas.List.Elements.{All-nil, All-cons}
 use Rattle.std.specs.Prelude.{decimal}
@@ -11,15 +11,15 @@ forty_two =
     decimal_of_value (codes "42") (All-cons IsDigit 52 (50 ∷ []) (omega arith, omega arith) (All-cons IsDigit 50 [] (omega arith, omega arith) (All-nil IsDigit)))
     (omega arith) (λ zero_first. absurd (omega arith)) (omega arith)
 
--- the number 42 stands at the front
+-- the text begins with the number 42
 first : IsNumeral 99 (codes "42,7") 42 (codes ",7")
 first = record { text = ap (λ digits. digits ++ codes ",7") (sym forty_two); few = omega arith; ends = λ digit. omega arith }
 
--- the number 4 doesn't, since a digit follows it
+-- it doesn't begin with the number 4, since a digit follows the 4
 not_four : IsNumeral 99 (codes "42,7") 4 (codes "2,7") → ⊥
 not_four number = number.ends (omega arith, omega arith)
 
--- nor does 42 where at most 41 is allowed
+-- it doesn't begin with a number of at most 41
 too_great : IsNumeral 41 (codes "42,7") 42 (codes ",7") → ⊥
 too_great number = let few = number.few in omega arith
 

@@ -1,9 +1,10 @@
+-- A text is read in one way: as numbers, points, indices, signs, lines and lists.
 pub mod Runs
-pub mod LineReading
-pub mod PairReading
-pub mod SidesReading
-pub mod SignReading
+pub mod EntryLines
+pub mod NumberPairs
+pub mod SidesLines
+pub mod SignedAreas
 pub mod Bytes
-pub mod PartReading
-pub mod Nothing
+pub mod ListParts
+pub mod NoResult
 mod Examples

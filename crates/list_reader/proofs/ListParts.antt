@@ -1,4 +1,4 @@
--- Parts of a text that are read one behind another.
+-- A text is one list of a given number of parts, and reading part by part finds it.
 use Rattle.std.proofs.Common.{◌≡◌, ℕ, ◌<◌, ◌≤◌, List, [], ◌∷◌, ◌++◌, length, length-append, refl, ap, sym, ◌∙◌, append_assoc, flat_map, arith}
 use Rattle.std.proofs.lemmas.Grind.{flat_map-append}
 use Rattle.std.proofs.lemmas.List.{append-nil}
@@ -6,7 +6,7 @@ use Rattle.std.proofs.lemmas.List.Elements.{All-nil, All-cons, All-head, All-tai
 use Rattle.std.specs.List.{All}
 use Rattle.list_reader.specs.Inner.TextParts.{IsPart}
 
--- the first parts are these, and the text goes on here
+-- the parts xs have been read, and `here` is what is left
 pub record ArePartsRead (A : Type 0) (text : A → List ℕ) (IsIn : A → Type 0) (bytes : List ℕ) (xs : List A) (here : List ℕ) : Type 0 where
   pub is : bytes ≡ flat_map text xs ++ here
   pub all : All IsIn xs
@@ -18,13 +18,13 @@ module _ (A : Type 0) (text : A → List ℕ) (IsIn : A → Type 0)
   pub parts_none : (bytes : List ℕ) → ArePartsRead A text IsIn bytes [] bytes
   parts_none bytes = record { is = refl; all = All-nil IsIn; only = λ ys rest inside same few. (ys, refl, same, inside) }
 
-  -- the first of some parts
+  -- a text that begins with parts begins with the first of them
   first_part : (bytes : List ℕ) (y : A) (ys : List A) (rest : List ℕ) → bytes ≡ flat_map text (y ∷ ys) ++ rest → All IsIn (y ∷ ys)
       → IsPart text IsIn bytes y (flat_map text ys ++ rest)
   first_part bytes y ys rest same inside =
       record { is = same ∙ append_assoc (text y) (flat_map text ys) rest; inside = All-head IsIn y ys inside }
 
-  -- the next of more parts is this one
+  -- the part that was read is the next one of the list
   next_part : (here next : List ℕ) (x : A) (ys : List A) (rest : List ℕ) → IsPart text IsIn here x next
       → here ≡ flat_map text ys ++ rest → All IsIn ys → 1 ≤ length ys
       → (zs : List A) × (ys ≡ x ∷ zs) × (next ≡ flat_map text zs ++ rest) × All IsIn zs
@@ -49,7 +49,7 @@ module _ (A : Type 0) (text : A → List ℕ) (IsIn : A → Type 0)
         (after, begins ∙ ap (λ l. xs ++ l) first ∙ sym (append_assoc xs (x ∷ []) after), behind, left);
   }
 
-  -- where no part stands, there are no more of them
+  -- if no part comes next, the list has no more parts
   pub parts_break : (bytes here : List ℕ) (xs : List A) → ArePartsRead A text IsIn bytes xs here → ((x : A) (rest : List ℕ) → IsPart text IsIn here x rest → ⊥)
       → (ys : List A) (rest : List ℕ) → All IsIn ys → bytes ≡ flat_map text ys ++ rest → length xs < length ys → ⊥
   parts_break bytes here xs so_far none ys rest inside same few =
@@ -60,7 +60,7 @@ module _ (A : Type 0) (text : A → List ℕ) (IsIn : A → Type 0)
       breaks [] later also some = omega arith
       breaks (y ∷ after) later also some = none y (flat_map text after ++ rest) (first_part here y after rest later also)
 
-  -- so many parts and no more leave what follows them
+  -- after all parts, what is left is what follows the list
   pub parts_end : (bytes here : List ℕ) (xs : List A) → ArePartsRead A text IsIn bytes xs here
       → (ys : List A) (rest : List ℕ) → All IsIn ys → bytes ≡ flat_map text ys ++ rest → length xs ≡ length ys → here ≡ rest
   parts_end bytes here xs so_far ys rest inside same all =
@@ -71,7 +71,7 @@ module _ (A : Type 0) (text : A → List ℕ) (IsIn : A → Type 0)
       ends [] later none = later
       ends (y ∷ after) later none = absurd (omega arith)
 
-  -- a text is one list of so many parts
+  -- a text is one list of a given number of parts
   pub one_list_of_parts : (bytes : List ℕ) (ps qs : List A) (r s : List ℕ) → bytes ≡ flat_map text ps ++ r → bytes ≡ flat_map text qs ++ s
       → All IsIn ps → All IsIn qs → length ps ≡ length qs → ps ≡ qs
   one_list_of_parts bytes [] [] r s p_is q_is p_in q_in len = refl

@@ -1,4 +1,4 @@
--- What holds, holds where there is nothing.
+-- A fact that always holds also holds if an option is `None`.
 use Rattle.std.specs.Prelude.{Option, Some, None, IfNone}
 
 pub if_none : {A P : Type 0} (r : Option A) → P → IfNone r P

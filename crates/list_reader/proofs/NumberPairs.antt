@@ -1,4 +1,4 @@
--- Points and indices, and two numbers behind a space.
+-- A text begins with at most one pair of numbers, and points and indices are entries of a line.
 use Rattle.std.proofs.Common.{◌≡◌, ℕ, ℤ, pos, negsuc, ◌-◌, ◌<◌, ◌^◌, ◌≤ℤ◌, List, [], ◌∷◌, ◌++◌, refl, ap, sym, ◌∙◌, append_assoc, codes, flat_map, arith}
 use Rattle.std.proofs.lemmas.Int.{ints}
 use Rattle.std.specs.Prelude.{decimal}
@@ -13,12 +13,12 @@ use Rattle.list_reader.specs.Inner.LineEntries.{IsEntry, IsPair}
 use Rattle.list_reader.specs.PagePoints.{IsInPage, IsIndex}
 use Rattle.list_reader.specs.Inner.LineTexts.{AreEntries}
 
--- what follows the first byte
+-- two lists with the same first byte and the same bytes have the same rest
 pub behind : (b : ℕ) (xs ys : List ℕ) → b ∷ xs ≡ b ∷ ys → xs ≡ ys
 behind b xs ys same = cc
 
 module _ (separator most_first most_second : ℕ) (no_digit : ¬ IsDigit separator) (first_small : most_first < 2 ^ 64) (second_small : most_second < 2 ^ 64) where
-  -- the first number of a pair
+  -- a text that begins with a pair has its first number after the space
   pub first_number : (bytes after : List ℕ) (a b : ℕ) (rest : List ℕ) → bytes ≡ 32 ∷ after → IsPair separator most_first most_second bytes a b rest
       → IsNumeral most_first after a (separator ∷ (decimal b ++ rest))
   first_number bytes after a b rest is pair = record {
@@ -27,13 +27,13 @@ module _ (separator most_first most_second : ℕ) (no_digit : ¬ IsDigit separat
     ends = no_digit;
   }
 
-  -- and what follows it
+  -- the number that was read is the pair's first one, and the separator follows it
   pub behind_first : (bytes after : List ℕ) (n : ℕ) (here : List ℕ) (a b : ℕ) (rest : List ℕ) → bytes ≡ 32 ∷ after → IsNumeral most_first after n here
       → IsPair separator most_first most_second bytes a b rest → (n ≡ a) × (here ≡ separator ∷ (decimal b ++ rest))
   behind_first bytes after n here a b rest is number pair =
       one_number most_first after n a here (separator ∷ (decimal b ++ rest)) first_small number (first_number bytes after a b rest is pair)
 
-  -- the second number
+  -- the second number follows the separator
   pub second_number : (bytes after : List ℕ) (n : ℕ) (here there : List ℕ) (a b : ℕ) (rest : List ℕ) → bytes ≡ 32 ∷ after → IsNumeral most_first after n here
       → here ≡ separator ∷ there → IsPair separator most_first most_second bytes a b rest → IsNumeral most_second there b rest
   second_number bytes after n here there a b rest is number next pair = record {
@@ -42,7 +42,7 @@ module _ (separator most_first most_second : ℕ) (no_digit : ¬ IsDigit separat
     ends = pair.ends;
   }
 
-  -- a text begins with one pair
+  -- a text begins with at most one pair
   pub one_pair : (bytes : List ℕ) (a b c d : ℕ) (r s : List ℕ) → IsPair separator most_first most_second bytes a b r
       → IsPair separator most_first most_second bytes c d s → (a ≡ c) × (b ≡ d) × (r ≡ s)
   one_pair bytes a b c d r s p q =
@@ -53,7 +53,7 @@ module _ (separator most_first most_second : ℕ) (no_digit : ¬ IsDigit separat
       let both = one_number most_second (decimal b ++ r) b d r s second_small (record { text = refl; few = p.second_few; ends = p.ends }) second in
       (first.0, both.0, both.1)
 
--- a coordinate that isn't negative
+-- a coordinate that isn't negative is a natural number
 pub natural : (z : ℤ) → pos 0 ≤ℤ z → (n : ℕ) × (z ≡ pos n)
 natural (pos n) h = (n, refl)
 natural (negsuc n) h = absurd (omega (arith, ints))
@@ -64,7 +64,7 @@ point_bytes a b rest = simp append_assoc
 index_bytes : (i : ℕ) (rest : List ℕ) → index_text i ++ rest ≡ 32 ∷ (decimal i ++ rest)
 index_bytes i rest = simp append_assoc
 
--- a point is a pair
+-- a pair of numbers within the sides is a point of the page
 pub point_of_pair : (width height : ℕ) (bytes : List ℕ) (a b : ℕ) (rest : List ℕ) → IsPair 44 width height bytes a b rest
     → IsEntry point_text (IsInPage width height) bytes (record { x = pos a; y = pos b }) rest
 point_of_pair width height bytes a b rest pair =
@@ -96,7 +96,7 @@ pair_of_point width height bytes p rest entry =
       },
     )
 
--- an index is a number
+-- a number of 32 bits is an index
 pub index_of_number : (bytes after : List ℕ) (i : ℕ) (rest : List ℕ) → bytes ≡ 32 ∷ after → IsNumeral (2 ^ 32 - 1) after i rest
     → IsEntry index_text IsIndex bytes i rest
 index_of_number bytes after i rest is number =
@@ -116,12 +116,12 @@ number_of_index bytes after i rest is entry =
 comma_is_no_digit : ¬ IsDigit 44
 comma_is_no_digit d = omega arith
 
--- neither a point nor a line feed begins with a digit
+-- a point and a line feed don't begin with a digit
 pub points_end : (ps : List Point) (rest : List ℕ) → EndsDigits (flat_map point_text ps ++ 10 ∷ rest)
 points_end [] rest digit = omega arith
 points_end (p ∷ ps) rest digit = omega arith
 
--- the entries of each kind of line
+-- points are entries of a line
 pub points_are_entries : (width height : ℕ) → width < 2 ^ 64 → height < 2 ^ 64 → AreEntries Point point_text (IsInPage width height)
 points_are_entries width height w h = record {
   spaced = λ p. (decimal_tail p, refl);

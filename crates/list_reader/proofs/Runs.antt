@@ -1,4 +1,4 @@
--- Runs of digits at the front of a text.
+-- A text begins with exactly one run of digits, and with at most one number.
 use Rattle.std.proofs.Common.{◌≡◌, ℕ, zero, suc, ◌+◌, ◌-◌, ◌*◌, ◌^◌, ◌<◌, ◌≤◌, List, [], ◌∷◌, ◌++◌, length, take, drop, get_or, refl, ap, sym, ◌∙◌, subst, arith, rules, length-drop}
 use Rattle.std.proofs.lemmas.List.{take-append-drop, get_or-take, get_or-drop, length-take, drop-drop}
 use Rattle.std.proofs.Math.Nat.{pow-le-pow_right}
@@ -10,7 +10,7 @@ use Rattle.std.proofs.lemmas.Str.Parse.{IsNumeralModel, IsDigitsTest, numerals_b
 use Rattle.pt_base.specs.Whole.{IsDigit, value_after}
 use Rattle.list_reader.specs.Inner.Numerals.{EndsDigits, IsNumeral, IsPlain}
 
--- digits and their value, as the library says it
+-- the value of digits is as the library defines it
 by_index : IsDigitsTest (All IsDigit)
 by_index = record {
   empty = All-nil IsDigit;
@@ -30,7 +30,7 @@ value_of_decimal n small = digits_value-decimal own n small
 pub decimal_of_value : (ds : List ℕ) → All IsDigit ds → 0 < length ds → (get_or ds 0 0 ≡ 48 → length ds ≡ 1) → value_after 0 ds < 2 ^ 64 → decimal (value_after 0 ds) ≡ ds
 decimal_of_value ds all some plain small = decimal-digits_value own ds all some plain small
 
--- a text begins with one run of digits
+-- a text begins with exactly one run of digits
 pub one_run : (ds es r s : List ℕ) → All IsDigit ds → All IsDigit es → EndsDigits r → EndsDigits s → ds ++ r ≡ es ++ s → (ds ≡ es) × (r ≡ s)
 one_run [] [] r s d e r_ends s_ends same = (refl, same)
 one_run [] (y ∷ es) r s d e r_ends s_ends same =
@@ -44,7 +44,7 @@ one_run (x ∷ ds) (y ∷ es) r s d e r_ends s_ends same =
     let tail = rest.0 in
     (cc, rest.1)
 
--- a text begins with one number
+-- a text begins with at most one number
 pub one_number : (most : ℕ) (bytes : List ℕ) (n m : ℕ) (r s : List ℕ) → most < 2 ^ 64 → IsNumeral most bytes n r → IsNumeral most bytes m s → (n ≡ m) × (r ≡ s)
 one_number most bytes n m r s small a b =
     let n_few = a.few in
@@ -52,19 +52,19 @@ one_number most bytes n m r s small a b =
     let one = one_run (decimal n) (decimal m) r s (digits_of_decimal n (omega arith)) (digits_of_decimal m (omega arith)) a.ends b.ends (sym a.text ∙ b.text) in
     (decimal_injective n m (omega arith) (omega arith) one.0, one.1)
 
--- so many digits and one more fit 128 bits
+-- one more digit still fits 128 bits
 pub digits_fit : (value i : ℕ) → i < 20 → value < 10 ^ i → 10 * value + 9 < 2 ^ 128
 digits_fit value i few below =
     let most : 10 ^ i ≤ 10 ^ 19 = pow-le-pow_right {n = 10} (omega arith) {i = i} {j = 19} (omega arith) in omega arith
 
--- a part of a text, and what follows it
+-- a part of a text, followed by the rest, is the text
 pub part_and_rest : (text : List ℕ) (at end : ℕ) → at ≤ end → drop at text ≡ take (end - at) (drop at text) ++ drop end text
 part_and_rest text at end onwards =
     let whole = take-append-drop (end - at) (drop at text) in
     let rest : drop (end - at) (drop at text) ≡ drop end text = drop-drop (end - at) at text ∙ ap (λ k. drop k text) (let e : at + (end - at) ≡ end = omega arith in e) in
     sym (ap (λ r. take (end - at) (drop at text) ++ r) (sym rest) ∙ whole)
 
--- the bytes of the part are those of the text
+-- the bytes of a part are those of the text
 pub part_digits : (text : List ℕ) (at end : ℕ) → at ≤ end → end ≤ length text → ((k : ℕ) → at ≤ k → k < end → IsDigit (get_or text k 0))
     → All IsDigit (take (end - at) (drop at text))
 part_digits text at end onwards within digits =
@@ -75,13 +75,13 @@ part_digits text at end onwards within digits =
     let e : get_or part i 0 ≡ get_or text (at + i) 0 = get_or-take (end - at) (drop at text) i 0 inside ∙ get_or-drop at text i 0 in
     subst IsDigit (sym e) (digits (at + i) (omega arith) (omega arith)))
 
--- where the digits stop, no digit stands at the front
+-- after the run of digits, the rest doesn't begin with a digit
 pub stops_there : (text : List ℕ) (end : ℕ) → ¬ IsDigit (get_or text end 0) → EndsDigits (drop end text)
 stops_there text end stops digit =
     let e : get_or (drop end text) 0 0 ≡ get_or text end 0 = get_or-drop end text 0 0 ∙ ap (λ k. get_or text k 0) (omega arith) in
     stops (subst IsDigit e digit)
 
--- a number's text has no needless zero
+-- the text of a number has no needless zero
 pub plain_decimal : (n : ℕ) → n < 2 ^ 64 → IsPlain (decimal n)
 plain_decimal zero small = let one = decimal_digit 0 (omega arith) in rw one (omega arith, omega arith, λ e. refl)
 plain_decimal (suc n) small = (
@@ -90,7 +90,7 @@ plain_decimal (suc n) small = (
   λ zero_first. absurd (omega (arith, first_decimal (suc n) (omega arith) small)),
 )
 
--- the digits at the front are those of the number
+-- the digits at the beginning of a text are those of its number
 pub digits_are : (most : ℕ) (text digits rest : List ℕ) (n : ℕ) (r : List ℕ) → most < 2 ^ 64 → text ≡ digits ++ rest → All IsDigit digits → EndsDigits rest
     → IsNumeral most text n r → (digits ≡ decimal n) × (rest ≡ r)
 digits_are most text digits rest n r small is all ends number =

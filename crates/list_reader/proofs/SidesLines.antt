@@ -1,4 +1,4 @@
--- The first line of a text that tells of a page.
+-- A text begins with at most one first line, and reading it step by step finds it.
 use Rattle.std.proofs.Common.{◌≡◌, ℕ, ◌-◌, ◌^◌, List, [], ◌∷◌, ◌++◌, refl, sym, ◌∙◌, codes, arith}
 use Rattle.std.specs.Prelude.{decimal}
 use Rattle.pt_core.specs.declared.limits.TheConstants.{LONGEST_SIDE}
@@ -6,30 +6,30 @@ use Rattle.list_reader.specs.Inner.Numerals.{IsNumeral}
 use Rattle.list_reader.proofs.Runs.{one_number}
 use Rattle.list_reader.specs.Inner.SidesLines.{IsSidesLine}
 
--- what follows a word
+-- two texts that begin with the same word and are equal have the same rest
 pub cancel : (word xs ys : List ℕ) → word ++ xs ≡ word ++ ys → xs ≡ ys
 cancel [] xs ys same = same
 cancel (b ∷ word) xs ys same = cancel word xs ys (cc)
 
--- a word stands at the front, and this is what follows it
+-- the bytes begin with a word, and `after` follows it
 pub record Behind (word bytes : List ℕ) : Type 0 where
   pub after : List ℕ
   pub is : bytes ≡ word ++ after
 
--- a number of at most so much was read at the front, and this is what follows it
+-- a number of at most `most` was read, and `after` follows it
 pub record ReadNumber (most : ℕ) (bytes : List ℕ) : Type 0 where
   pub value : ℕ
   pub after : List ℕ
   pub is : IsNumeral most bytes value after
 
--- what follows the sides
+-- the first line after its height
 abbrev pub behind_height : ℕ → List ℕ → List ℕ
 behind_height p rest = decimal p ++ (codes "\n" ++ rest)
 
 abbrev pub behind_width : ℕ → ℕ → List ℕ → List ℕ
 behind_width h p rest = decimal h ++ (codes " " ++ behind_height p rest)
 
--- what was read at the front of a first line, step by step
+-- the numbers that were read, one after another, are those of the first line
 module _ (word bytes : List ℕ) (w h p : ℕ) (rest : List ℕ) (head : IsSidesLine word bytes w h p rest) (start : Behind word bytes) where
   pub first : IsNumeral LONGEST_SIDE start.after w (codes " " ++ behind_width h p rest)
   first = record { text = cancel word start.after (decimal w ++ (codes " " ++ behind_width h p rest)) (sym start.is ∙ head.is); few = head.wide; ends = λ d. omega arith }
@@ -53,7 +53,7 @@ module _ (word bytes : List ℕ) (w h p : ℕ) (rest : List ℕ) (head : IsSides
           pub after_third : (count : ReadNumber (2 ^ 32 - 1) next.after) → (count.value ≡ p) × (count.after ≡ codes "\n" ++ rest)
           after_third count = one_number (2 ^ 32 - 1) next.after count.value p count.after (codes "\n" ++ rest) (omega arith) count.is third
 
--- a text has one first line
+-- a text begins with at most one first line
 pub one_sides : (word bytes : List ℕ) (w h p : ℕ) (r : List ℕ) (w' h' p' : ℕ) (s : List ℕ) → IsSidesLine word bytes w h p r → IsSidesLine word bytes w' h' p' s
     → (w ≡ w') × (h ≡ h') × (p ≡ p') × (r ≡ s)
 one_sides word bytes w h p r w' h' p' s a b =

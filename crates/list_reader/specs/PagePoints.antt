@@ -1,8 +1,8 @@
--- What a list of points, or of their indices, may have in it.
+-- Bounds for the entries of a list of points, or of indices of points.
 use Rattle.std.specs.Prelude.{ℕ, ◌<◌, ◌^◌, pos, ◌≤ℤ◌}
 use Rattle.pt_core.specs.declared.point.Point.{Point}
 
--- the point is on a page of these sides
+-- the point lies on a page with these sides
 pub record IsInPage (width height : ℕ) (p : Point) : Type 0 where
   pub left : pos 0 ≤ℤ p.x
   pub right : p.x ≤ℤ pos width

@@ -1,14 +1,14 @@
 //! Single bytes of a text.
 ghost use Rattle.std.specs.Prelude.{◌≡◌, ℕ, ◌+◌, ◌<◌, ◌≤◌, ◌↔◌, List, ◌∷◌, IfNone, IfSome, IsTrue, drop, length, slice_index};
 
-/// Whether this byte stands at this place.
+/// Whether the byte at index `at` is `byte`.
 pub fn has_byte(text: &[u8], at: usize, byte: u8) -> bool
     ensures { IsTrue result ↔ ((at < length text.now) × (slice_index text.now at ≡ byte)) }
 {
     at < text.len() && text[at] == byte
 }
 
-/// Where this byte ends, if it stands at this place.
+/// The index after `at`, if the byte at `at` is `byte`.
 pub fn read_byte(text: &[u8], at: usize, byte: u8) -> Option<usize>
     ensures some { IfSome result (λ end. drop at text.now ≡ byte ∷ drop end text.now) }
     ensures end { IfSome result (λ end. end ≡ at + 1) }

@@ -1,4 +1,4 @@
-//! The entries that a line may consist of.
+//! The entries of a line.
 ghost use Rattle.std.specs.Prelude.{ℕ, ◌≤◌, List, IfNone, IfSome, drop, length};
 
 use crate::byte::read_byte;
@@ -6,14 +6,14 @@ use crate::number::read_number;
 use crate::pair::read_pair;
 use pt_core::Point;
 
-/// A value, and where it ends.
+/// A value, and the index at which its text ends.
 #[derive(Drop)]
 pub struct At<T> {
     pub value: T,
     pub end: usize,
 }
 
-/// A kind of entries, of which a line consists.
+/// A kind of entries. All entries of a line are of one kind.
 pub trait Entries {
     ghost use Rattle.list_reader.specs.Inner.LineEntries.{IsEntry};
     ghost use Rattle.list_reader.specs.Inner.TextParts.{EndsBehind};
@@ -23,13 +23,13 @@ pub trait Entries {
     /// The text of a value.
     ghost text_of: { Self.Value → List ℕ };
 
-    /// Which values there are.
+    /// The values that an entry may have.
     ghost IsIn: { Self → Self.Value → Type 0 };
 
-    /// What its own bounds keep to.
+    /// The bounds that this kind has to meet before it can read.
     ghost IsBounded: { Self → Type 0 };
 
-    /// A space and a value.
+    /// Reads a space and a value, starting at index `at`.
     fn read(&self, text: &[u8], at: usize) -> Option<At<Self::Value>>
         requires at { at ≤ length text.now }
         requires bounded { IsBounded self.now }
@@ -40,7 +40,7 @@ pub trait Entries {
             → IsEntry text_of (IsIn self.now) (drop at text.now) x rest → ⊥) };
 }
 
-/// The points of a page of these sides.
+/// The points of a page with these sides, in pixels.
 #[derive(Clone, Copy, Debug)]
 pub struct PointsOf {
     pub width: u32,
@@ -78,7 +78,7 @@ impl Entries for PointsOf {
     }
 }
 
-/// Indices of points.
+/// Indices of points, of 32 bits.
 #[derive(Clone, Copy, Debug)]
 pub struct Indices;
 

@@ -1,11 +1,12 @@
 //! Reads texts of lists: a page's sides, points, signs with areas, and lines of entries.
 //!
-//! A text of lists is read from its first byte on, without looking back. Each step answers what stands at
-//! a place and where that ends, or that nothing stands there which it could read.
+//! A text is read from its first byte on, without looking back. Each function reads one part of the text, which
+//! starts at a given index. It returns the part's value and the index at which the part ends, or nothing if it
+//! can't read the part there.
 //!
 //! ```text
-//!     4 2 , 7        At 0 stands the number 42, which ends at 2; there the byte `,` stands, which ends
-//!    0 1 2 3 4       at 3. At 2 stands no number.
+//!     4 2 , 7        The number at index 0 is 42, and it ends at index 2. The byte at index 2 is `,`, and
+//!    0 1 2 3 4       it ends at index 3. No number starts at index 2.
 //! ```
 #![tactic(auto)]
 

@@ -8,14 +8,15 @@ ghost use Rattle.list_reader.specs.declared.number.TheConstants.{MOST_DIGITS};
 /// The most digits of a number below 2^64.
 const MOST_DIGITS: usize = 20;
 
-/// A number, and where it ends.
+/// A number, and the index at which it ends.
 #[derive(Clone, Copy, Debug, PartialEq, Eq)]
 pub struct Number {
     pub value: u64,
     pub end: usize,
 }
 
-/// The number of at most so much that stands at this place, with all digits that follow.
+/// Reads the number that starts at index `at`, with all digits that follow. The result is `None` if there is no
+/// number, if it has a needless zero, or if it is greater than `most`.
 pub fn read_number(text: &[u8], at: usize, most: u64) -> Option<Number>
     requires { at ≤ length text.now }
     ensures some { IfSome result
@@ -36,7 +37,7 @@ pub fn read_number(text: &[u8], at: usize, most: u64) -> Option<Number>
     })
 }
 
-/// Where the digits end that stand at this place.
+/// The index after the last digit of the run of digits that starts at `at`. It is `at` if there is none.
 fn digits_end(text: &[u8], at: usize) -> usize
     requires { at ≤ length text.now }
     ensures { IsDigitsEnd text.now at result }
@@ -49,7 +50,7 @@ fn digits_end(text: &[u8], at: usize) -> usize
     text.len()
 }
 
-/// The value of digits, if there are some, no more than a number below 2^64 has, and no needless zero.
+/// The value of some digits. The result is `None` if there are no digits, more than 20, or a needless zero.
 fn plain_value(digits: &[u8]) -> Option<u128>
     requires { All IsDigit digits.now }
     ensures some { IfSome result (λ n. IsPlainValue digits.now n) }
@@ -61,7 +62,7 @@ fn plain_value(digits: &[u8]) -> Option<u128>
     Some(value_of(digits))
 }
 
-/// Whether there are digits, no more than a number below 2^64 has, and no needless zero.
+/// Whether there are 1 to 20 digits without a needless zero.
 fn is_plain(digits: &[u8]) -> bool
     ensures { IsTrue result ↔ IsPlain digits.now }
 {
@@ -71,7 +72,7 @@ fn is_plain(digits: &[u8]) -> bool
     digits.len() == 1 || digits[0] != b'0'
 }
 
-/// The value of no more digits than a number below 2^64 has.
+/// The value of at most 20 digits.
 fn value_of(digits: &[u8]) -> u128
     requires short { length digits.now ≤ MOST_DIGITS }
     requires digits { All IsDigit digits.now }

@@ -1,4 +1,4 @@
-//! Two numbers behind a space.
+//! Two numbers after a space.
 ghost use Rattle.std.specs.Prelude.{ℕ, ◌≤◌, List, IfNone, IfSome, drop, length};
 ghost use Rattle.pt_base.specs.Whole.{IsDigit};
 ghost use Rattle.list_reader.specs.Inner.LineEntries.{IsPair};
@@ -7,7 +7,7 @@ ghost use Rattle.list_reader.specs.Inner.TextParts.{EndsBehind};
 use crate::byte::read_byte;
 use crate::number::read_number;
 
-/// Two numbers, and where they end.
+/// Two numbers, and the index at which the second one ends.
 #[derive(Clone, Copy, Debug)]
 pub struct Pair {
     pub first: u64,
@@ -15,7 +15,8 @@ pub struct Pair {
     pub end: usize,
 }
 
-/// A space, a number, this byte and another number.
+/// Reads a space, a number, the byte `separator` and another number, starting at index `at`. The numbers are at
+/// most `most_first` and `most_second`.
 pub fn read_pair(
     text: &[u8],
     at: usize,

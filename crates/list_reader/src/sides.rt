@@ -1,4 +1,4 @@
-//! The first line of a text that tells of a page.
+//! The first line of a text that describes a page.
 ghost use Rattle.std.specs.Prelude.{ℕ, ◌≤◌, List, IfNone, IfSome, drop, length};
 ghost use Rattle.list_reader.specs.Inner.SidesLines.{IsSidesLine};
 
@@ -7,7 +7,7 @@ use crate::number::read_number;
 use crate::word::read_word;
 use pt_core::LONGEST_SIDE;
 
-/// The sides of a page and how many lists follow, and where the line ends that tells them.
+/// The sides of a page in pixels, the number of lists that follow, and the index at which the line ends.
 #[derive(Clone, Copy, Debug)]
 pub struct SidesLine {
     pub width: u32,
@@ -16,7 +16,7 @@ pub struct SidesLine {
     pub end: usize,
 }
 
-/// The first line: this word, the page's sides and a count, a space before each number.
+/// Reads the first line: `word`, the page's width and height, and a count, with a space before each number.
 pub fn read_sides(text: &[u8], word: &[u8]) -> Option<SidesLine>
     ensures some { IfSome result (λ line.
         IsSidesLine word.now text.now line.width line.height line.count (drop line.end text.now)) }

@@ -8,7 +8,7 @@ ghost use Rattle.list_reader.specs.Inner.TextParts.{EndsBehind};
 use crate::byte::{has_byte, read_byte};
 use crate::number::read_number;
 
-/// Where a sign ends, if one stands at this place.
+/// The index after the sign at index `at`, if there is one.
 fn read_sign(text: &[u8], at: usize) -> Option<usize>
     ensures some { IfSome result (λ end. (sign : Sign) × (drop at text.now ≡ sign_text sign ++ drop end text.now)) }
     ensures end { IfSome result (λ end. end ≡ at + 1) }
@@ -24,7 +24,7 @@ fn read_sign(text: &[u8], at: usize) -> Option<usize>
     None
 }
 
-/// Where a sign and an area end, a space between, if they stand at this place.
+/// The index after a sign, a space and an area that start at index `at`, if they are there.
 pub fn read_signed_area(text: &[u8], at: usize) -> Option<usize>
     ensures some { IfSome result (λ end. (sign : Sign) × (area : ℕ)
         × IsSignedArea (drop at text.now) sign area (drop end text.now)) }

@@ -1,7 +1,7 @@
 //! Words of a text.
 ghost use Rattle.std.specs.Prelude.{◌≡◌, ℕ, ◌+◌, ◌≤◌, List, ◌++◌, IfNone, IfSome, drop, length};
 
-/// Where this word ends, if it stands at this place.
+/// The index after `word`, if it starts at index `at`.
 pub fn read_word(text: &[u8], at: usize, word: &[u8]) -> Option<usize>
     requires { at ≤ length text.now }
     ensures some { IfSome result (λ end. drop at text.now ≡ word.now ++ drop end text.now) }

@@ -10,9 +10,9 @@ use Rattle.outline_check.specs.ProofsText.{Certified, certified_text, label_text
 use Rattle.list_reader.specs.PagePoints.{IsInPage, IsIndex}
 use Rattle.list_reader.specs.Inner.SidesLines.{IsSidesLine}
 use Rattle.outline_check.specs.Texts.{IsShortLabel, IsProofs}
-use Rattle.list_reader.proofs.LineReading.{one_some_line}
-use Rattle.list_reader.proofs.PairReading.{points_are_entries, indices_are_entries}
-use Rattle.list_reader.proofs.SidesReading.{Behind, cancel}
+use Rattle.list_reader.proofs.EntryLines.{one_some_line}
+use Rattle.list_reader.proofs.NumberPairs.{points_are_entries, indices_are_entries}
+use Rattle.list_reader.proofs.SidesLines.{Behind, cancel}
 use Rattle.outline_check.proofs.LabelReading.{labels_are_entries}
 
 -- what follows the first line, and the second

@@ -12,8 +12,8 @@ use Rattle.pt_core.specs.ClosedWalk.{origin}
 use Rattle.pt_core.specs.declared.limits.TheConstants.{LONGEST_SIDE}
 use Rattle.outline_check.specs.Inner.CertifiedPaths.{IsGroup}
 use Rattle.list_reader.specs.Inner.SidesLines.{IsSidesLine}
-use Rattle.list_reader.proofs.PartReading.{ArePartsRead, parts_none, parts_more, parts_break, parts_end}
-use Rattle.list_reader.proofs.SidesReading.{one_sides}
+use Rattle.list_reader.proofs.ListParts.{ArePartsRead, parts_none, parts_more, parts_break, parts_end}
+use Rattle.list_reader.proofs.SidesLines.{one_sides}
 use Rattle.outline_check.specs.ProofsText.{Certified, certified_text}
 use Rattle.outline_check.specs.Texts.{AreInRanges, IsProofs}
 use Rattle.outline_check.specs.Verdicts.{IsGood, IsFirstBad, no_certified}

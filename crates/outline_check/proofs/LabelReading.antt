@@ -4,7 +4,7 @@ use Rattle.std.specs.Prelude.{decimal}
 use Rattle.pt_base.specs.Whole.{IsDigit}
 use Rattle.list_reader.specs.Inner.LineEntries.{IsEntry, IsPair}
 use Rattle.list_reader.specs.Inner.LineTexts.{AreEntries}
-use Rattle.list_reader.proofs.PairReading.{one_pair}
+use Rattle.list_reader.proofs.NumberPairs.{one_pair}
 use Rattle.outline_check.specs.declared.label.Label.{Label}
 use Rattle.outline_check.specs.ProofsText.{label_text}
 use Rattle.outline_check.specs.Texts.{IsShortLabel}

@@ -9,8 +9,8 @@ use Rattle.outline_check.specs.Verdicts.{IsVerdict}
 use Rattle.outline_check.specs.declared.verdict.Verdict.TheVariants.{Right}
 use Rattle.outline_check.proofs.Best.{best}
 use Rattle.outline_check.proofs.Exists.{segment_goes_up}
-use Rattle.list_reader.proofs.PartReading.{one_list_of_parts}
-use Rattle.list_reader.proofs.SidesReading.{one_sides}
+use Rattle.list_reader.proofs.ListParts.{one_list_of_parts}
+use Rattle.list_reader.proofs.SidesLines.{one_sides}
 use Rattle.outline_check.proofs.GroupReading.{head_of, one_group}
 
 pub one_reading : (text : List ℕ) (w h w' h' : ℕ) (ps qs : List Certified) → IsProofs text w h ps → IsProofs text w' h' qs → (w ≡ w') × (h ≡ h') × (ps ≡ qs)

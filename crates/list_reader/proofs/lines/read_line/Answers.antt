@@ -1,7 +1,7 @@
 use Rattle.std.proofs.Common.{◌≡◌, ◌+◌, ◌≤◌, length, drop, arith}
 use Rattle.std.proofs.lemmas.Bool.Decides.{nat_tests}
 use Rattle.list_reader.proofs.Bytes.{front, not_byte, is_byte}
-use Rattle.list_reader.proofs.LineReading.{reading_more, reading_ends, reading_stops, reading_breaks, reading_empty}
+use Rattle.list_reader.proofs.EntryLines.{reading_more, reading_ends, reading_stops, reading_breaks, reading_empty}
 use Rattle.list_reader.proofs.lines.read_line.Goals as goal
 
 pub loop-entry-preserved : goal.loop-entry-preserved
@@ -16,7 +16,7 @@ loop-entry-preserved g c =
           c.loop-entry.invariant.reading;
     }
 
--- a space stands here, but no value
+-- a space comes next, but no value after it
 pub returns-in_default-clause-none : goal.returns-in_default-clause-none
 returns-in_default-clause-none g c = λ xs rest line.
     let space = c.has_byte.ensures.0 c.loop-entry-test.true in

@@ -1,7 +1,7 @@
 use Rattle.std.proofs.Common.{◌++◌, drop, arith}
 use Rattle.std.specs.Prelude.{decimal}
-use Rattle.list_reader.proofs.Nothing.{if_none}
-use Rattle.list_reader.proofs.PairReading.{behind_first, second_number}
+use Rattle.list_reader.proofs.NoResult.{if_none}
+use Rattle.list_reader.proofs.NumberPairs.{behind_first, second_number}
 use Rattle.list_reader.proofs.pair.read_pair.Goals as goal
 
 pub returns-in_err-behind-clause-none : goal.returns-in_err-behind-clause-none

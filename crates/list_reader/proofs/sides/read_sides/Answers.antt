@@ -1,7 +1,7 @@
 use Rattle.std.proofs.Common.{◌++◌, ap, ◌∙◌, codes, drop, arith}
 use Rattle.std.specs.Prelude.{decimal}
-use Rattle.list_reader.proofs.Nothing.{if_none}
-use Rattle.list_reader.proofs.SidesReading.{behind_width, behind_height, after_first, second, after_second, third, after_third}
+use Rattle.list_reader.proofs.NoResult.{if_none}
+use Rattle.list_reader.proofs.SidesLines.{behind_width, behind_height, after_first, second, after_second, third, after_third}
 use Rattle.list_reader.proofs.sides.read_sides.Goals as goal
 use Rattle.list_reader.proofs.sides.read_sides.Goals.{then-width-eq0-via-then-width-eq0, then-width-eq0-via-else-width-eq0+then-height-eq0}
 
@@ -57,7 +57,7 @@ returns-then-width-eq0-clause-none c = λ width height count rest line.
     let also = line.some_height in
     elim c.then-width-eq0.branch [ then-width-eq0-via-then-width-eq0 w ↦ omega arith | then-width-eq0-via-else-width-eq0+then-height-eq0 w ↦ omega arith ]
 
--- the whole line is there
+-- the whole line has been read
 pub returns-clause-some : goal.returns-clause-some
 returns-clause-some c =
     let width = rw c.from.ensures at c.in_ok-width.ensures.some in

@@ -1,6 +1,6 @@
 use Rattle.pt_core.specs.declared.path.Sign.TheVariants.{Plus, Minus}
 use Rattle.list_reader.proofs.Bytes.{is_byte}
-use Rattle.list_reader.proofs.SignReading.{no_sign}
+use Rattle.list_reader.proofs.SignedAreas.{no_sign}
 use Rattle.list_reader.proofs.sign.read_sign.Goals as goal
 
 pub returns-then-has_byte-clause-some : goal.returns-then-has_byte-clause-some

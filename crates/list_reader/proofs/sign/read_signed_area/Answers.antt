@@ -1,8 +1,8 @@
 use Rattle.std.proofs.Common.{◌∷◌, ◌++◌, ◌∙◌, ap, drop, arith}
 use Rattle.std.specs.Prelude.{decimal}
 use Rattle.pt_base.specs.PointsText.{sign_text}
-use Rattle.list_reader.proofs.Nothing.{if_none}
-use Rattle.list_reader.proofs.SignReading.{behind_sign, area_there}
+use Rattle.list_reader.proofs.NoResult.{if_none}
+use Rattle.list_reader.proofs.SignedAreas.{behind_sign, area_there}
 use Rattle.list_reader.proofs.sign.read_signed_area.Goals as goal
 
 pub returns-in_err-signed-clause-none : goal.returns-in_err-signed-clause-none
