@@ -10,7 +10,7 @@ use Rattle.bit_image.specs.Image.{Fits, Image}
 use Rattle.bit_image.specs.Page.{IsPage, Page, image_of}
 use Rattle.bit_image.proofs.Pages.{Fits-page}
 use Rattle.turn_policies.specs.Majority.{count_below, sum_below}
-use Rattle.turn_policies.proofs.Counting.{count_below-sum, sum_below-same}
+use Rattle.turn_policies.proofs.SumsBelow.{count_below-sum, sum_below-same}
 use Rattle.path_decompose.specs.Decomposition.{IsDecomposed, IsDecomposition, inverted}
 use Rattle.path_decompose.specs.Inside.{lines_of, lines_to}
 use Rattle.path_decompose.specs.Inner.GridEdges.{IsLineOn}

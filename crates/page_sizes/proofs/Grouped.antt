@@ -6,7 +6,7 @@ use Rattle.std.proofs.lemmas.List.FromFn.{sum_by-map-range_with_len_more}
 use Rattle.pt_core.specs.declared.path.Path.{Path}
 use Rattle.pt_core.specs.declared.trace.Group.{Group}
 use Rattle.turn_policies.specs.Majority.{sum_below}
-use Rattle.turn_policies.proofs.Counting.{sum_below-add, sum_below-at, sum_below-zero}
+use Rattle.turn_policies.proofs.SumsBelow.{sum_below-add, sum_below-at, sum_below-zero}
 use Rattle.path_tree.specs.Groups.{group_at, groups_of, holder_of, holes_below, is_number}
 
 sum_by-filter : {A : Type 0} (p : A → Bool) (f : A → ℕ) (xs : List A) → sum_by f (filter p xs) ≡ sum_by (λ x. cond (p x) (f x) 0) xs

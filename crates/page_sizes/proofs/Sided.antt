@@ -4,7 +4,7 @@ use Rattle.std.proofs.lemmas.Bool.Decides.{nat_tests}
 use Rattle.std.proofs.lemmas.List.Elements.{All-head, All-tail}
 use Rattle.std.proofs.lemmas.List.Sums.{sum_by-cons}
 use Rattle.turn_policies.specs.Majority.{sum_below}
-use Rattle.turn_policies.proofs.Counting.{sum_below-add, sum_below-at, sum_below-if, sum_below-same, sum_below-zero}
+use Rattle.turn_policies.proofs.SumsBelow.{sum_below-add, sum_below-at, sum_below-if, sum_below-same, sum_below-zero}
 use Rattle.path_decompose.specs.Inner.GridEdges.{IsLineOn}
 use Rattle.path_decompose.specs.GridEdges.{GridEdge, level, same_line, upright}
 

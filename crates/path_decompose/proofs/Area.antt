@@ -13,7 +13,7 @@ use Rattle.turn_policies.specs.declared.heading.Dir.{Dir}
 use Rattle.turn_policies.specs.declared.heading.Dir.TheVariants.{North, East, South, West}
 use Rattle.turn_policies.specs.declared.edge.Edge.{Edge}
 use Rattle.turn_policies.specs.Boundary.{IsBoundary, left_pixel, right_pixel}
-use Rattle.turn_policies.proofs.Counting.{sum_below-same, sum_below-add, count_below-sum, sum_below-zero, sum_below-at, sum_below-if}
+use Rattle.turn_policies.proofs.SumsBelow.{sum_below-same, sum_below-add, count_below-sum, sum_below-zero, sum_below-at, sum_below-if}
 use Rattle.boundary_edges.specs.Inside.{black_count}
 use Rattle.boundary_edges.specs.GridEdges.{GridEdge, upright, level, same_line}
 use Rattle.boundary_edges.specs.Inner.GridEdges.{IsLineOn}

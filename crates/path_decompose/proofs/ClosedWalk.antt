@@ -19,7 +19,7 @@ use Rattle.turn_policies.specs.Heading.{opposite_of, end_x, end_y}
 use Rattle.turn_policies.specs.Boundary.{IsBoundary, left_pixel}
 use Rattle.turn_policies.specs.Majority.{major}
 use Rattle.turn_policies.specs.Turn.{goes_right, next}
-use Rattle.turn_policies.proofs.Turning.{next_boundary, onwards}
+use Rattle.turn_policies.proofs.TurnedEdges.{next_boundary, onwards}
 use Rattle.path_decompose.specs.Walk.{IsTrail, start_of}
 use Rattle.boundary_edges.specs.Inside.{is_odd}
 use Rattle.boundary_edges.specs.Bounds.{IsCornerOf}

@@ -7,7 +7,7 @@ use Rattle.pt_core.specs.declared.policy.Policy.{Policy}
 use Rattle.bit_image.specs.Image.{Image, Fits}
 use Rattle.bit_image.specs.Page.{Page}
 use Rattle.turn_policies.specs.Majority.{count_below, sum_below}
-use Rattle.turn_policies.proofs.Counting.{sum_below-same}
+use Rattle.turn_policies.proofs.SumsBelow.{sum_below-same}
 use Rattle.boundary_edges.specs.Inside.{inside, black_count}
 use Rattle.path_decompose.specs.Decomposition.{inverted, IsDecomposed}
 use Rattle.path_decompose.proofs.Beyond.{white_off}

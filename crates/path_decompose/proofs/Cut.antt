@@ -16,7 +16,7 @@ use Rattle.path_decompose.specs.Walk.{IsTrail}
 use Rattle.boundary_edges.specs.Inside.{is_crossed}
 use Rattle.boundary_edges.proofs.Differ.{differ_swap, differ_solve}
 use Rattle.path_decompose.proofs.Parity.{odd_by, odd_by-differ, odd_by-same, odd_by-closed}
-use Rattle.turn_policies.proofs.Turning.{next_boundary}
+use Rattle.turn_policies.proofs.TurnedEdges.{next_boundary}
 use Rattle.path_decompose.proofs.EdgeLine.{step_line, line_of, inside_edges}
 
 -- a step changes whether the walk is above the bottom of row y exactly where it goes through row y

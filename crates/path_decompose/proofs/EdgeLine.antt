@@ -14,7 +14,7 @@ use Rattle.boundary_edges.specs.GridEdges.{GridEdge, upright, level}
 use Rattle.path_decompose.specs.Walk.{IsTrail, start_of}
 use Rattle.boundary_edges.specs.Inside.{line_at, line_between, lines_to, lines_of, is_crossed, inside}
 use Rattle.path_decompose.proofs.Parity.{odd_by, is_odd-count}
-use Rattle.turn_policies.proofs.Turning.{next_boundary}
+use Rattle.turn_policies.proofs.TurnedEdges.{next_boundary}
 
 -- the line along which a step leaves corner (x, y)
 abbrev pub step_line : ℕ → ℕ → Dir → GridEdge

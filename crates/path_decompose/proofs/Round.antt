@@ -10,7 +10,7 @@ use Rattle.turn_policies.specs.Boundary.{IsBoundary}
 use Rattle.turn_policies.specs.Turn.{next}
 use Rattle.path_decompose.specs.Walk.{IsTrail, IsRoundTrip, first_edge}
 use Rattle.path_decompose.proofs.Orbit.{orbit, run-orbit, get_or-orbit}
-use Rattle.turn_policies.proofs.Turning.{next_boundary}
+use Rattle.turn_policies.proofs.TurnedEdges.{next_boundary}
 
 -- the edges go once round in the image, from a boundary edge
 pub record IsCircuit (b : Image) (policy : Policy) (sign : Sign) (s : Edge) (es : List Edge) : Type 0 where

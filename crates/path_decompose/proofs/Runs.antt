@@ -16,7 +16,7 @@ use Rattle.turn_policies.specs.declared.edge.Edge.{Edge}
 use Rattle.turn_policies.specs.Boundary.{IsBoundary, left_pixel}
 use Rattle.turn_policies.specs.Heading.{left_of, right_of, end_x, end_y}
 use Rattle.turn_policies.specs.Turn.{turn_of, turn, next}
-use Rattle.turn_policies.proofs.Turning.{next_boundary}
+use Rattle.turn_policies.proofs.TurnedEdges.{next_boundary}
 use Rattle.path_decompose.specs.declared.trail.Trail.{Trail}
 use Rattle.path_decompose.specs.Inner.Trail.{is_upright, column_up, column_down, AreNoted, IsStraightRun}
 use Rattle.path_decompose.specs.Walk.{first_edge, start_of, IsTrail}

@@ -14,7 +14,7 @@ use Rattle.turn_policies.specs.Boundary.{IsBoundary, left_pixel, right_pixel}
 use Rattle.turn_policies.specs.Heading.{left_of, right_of, end_x, end_y}
 use Rattle.turn_policies.specs.Majority.{major}
 use Rattle.turn_policies.specs.Turn.{goes_right, turn_of, next}
-use Rattle.turn_policies.proofs.Turning.{left_behind, right_behind, left_pixel-left_of, right_pixel-left_of, right_pixel-right_of, left_behind-end, right_behind-end, next_boundary}
+use Rattle.turn_policies.proofs.TurnedEdges.{left_behind, right_behind, left_pixel-left_of, right_pixel-left_of, right_pixel-right_of, left_behind-end, right_behind-end, next_boundary}
 use Rattle.boundary_edges.specs.GridEdges.{GridEdge, upright, level, same_line, is_edge}
 use Rattle.path_decompose.specs.Walk.{IsTrail, first_edge}
 use Rattle.path_decompose.proofs.Cut.{is_edge-inside_edges}

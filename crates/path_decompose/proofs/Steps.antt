@@ -10,7 +10,7 @@ use Rattle.bit_image.specs.FirstBlack.{IsFirstBlack}
 use Rattle.turn_policies.specs.declared.edge.Edge.{Edge}
 use Rattle.turn_policies.specs.Boundary.{IsBoundary}
 use Rattle.turn_policies.specs.Turn.{next}
-use Rattle.turn_policies.proofs.Turning.{next_boundary}
+use Rattle.turn_policies.proofs.TurnedEdges.{next_boundary}
 use Rattle.turn_policies.proofs.Back.{previous, previous-next}
 use Rattle.path_decompose.specs.Walk.{IsRoundTrip, IsBoundaryWalk, first_edge, start_of}
 use Rattle.path_decompose.proofs.Orbit.{nth_after, orbit, NoReturn, nth_after-keeps, length-orbit, orbit_push, orbit_run, get_or-orbit, distinct_orbit}

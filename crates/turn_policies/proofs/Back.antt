@@ -1,4 +1,4 @@
--- Each boundary edge follows exactly one: the table of turns, read backwards.
+-- Each boundary edge follows exactly one boundary edge: the table of turns, read backwards.
 use Rattle.std.proofs.Common.{◌≡◌, ℕ, zero, suc, Bool, true, false, cond, refl, sym, ◌∙◌, ap}
 use Rattle.std.proofs.lemmas.Bool.{false≢true}
 use Rattle.pt_core.specs.declared.path.Sign.{Sign}
@@ -11,7 +11,7 @@ use Rattle.turn_policies.specs.Heading.{left_of, right_of, opposite_of, end_x, e
 use Rattle.turn_policies.specs.Boundary.{left_pixel, right_pixel, IsBoundary}
 use Rattle.turn_policies.specs.Majority.{major}
 use Rattle.turn_policies.specs.Turn.{goes_right, turn_of, turn, next}
-use Rattle.turn_policies.proofs.Turning.{left_behind, right_behind, left_pixel-left_of, right_pixel-left_of, left_pixel-right_of, right_pixel-right_of, left_behind-end, right_behind-end}
+use Rattle.turn_policies.proofs.TurnedEdges.{left_behind, right_behind, left_pixel-left_of, right_pixel-left_of, left_pixel-right_of, right_pixel-right_of, left_behind-end, right_behind-end}
 
 pub left_behind-left_of : (c : ℕ → ℕ → Bool) (x y : ℕ) (d : Dir) → left_behind c x y (left_of d) ≡ right_behind c x y d
 left_behind-left_of c x y North = refl
@@ -49,18 +49,18 @@ right_of-left_of East = refl
 right_of-left_of South = refl
 right_of-left_of West = refl
 
--- the heading of the edge before, by whether the pixels behind on the left and on the right are black
+-- the heading of the previous edge, given the colours of the pixels that it leaves on its left and right
 abbrev pub came_from : Bool → Bool → Bool → Dir → Dir
 came_from true false right d = d
 came_from true true right d = left_of d
 came_from false false right d = right_of d
 came_from false true right d = cond right (left_of d) (right_of d)
 
--- the edge that comes to a corner with a heading
+-- the edge that arrives at a corner with this heading
 abbrev pub edge_to : ℕ → ℕ → Dir → Edge
 edge_to x y d = record { x = end_x x (opposite_of d); y = end_y y (opposite_of d); heading = d }
 
--- the edge before
+-- the previous edge of a path
 abbrev pub previous : Image → Policy → Sign → Edge → Edge
 previous b policy sign e =
     edge_to e.x e.y
@@ -83,7 +83,7 @@ came_from-turn_of c x y false false right d el er hl hr =
     came_from-at _ false _ false right (left_of d) (left_behind-left_of c x y d ∙ hr) (right_behind-left_of c x y d ∙ er) ∙ right_of-left_of d
 came_from-turn_of c x y true false right d el er hl hr = came_from-at _ true _ false right d hl hr
 
--- back from where a boundary edge ends is where it starts
+-- a step back from the end of a boundary edge leads to its start
 pub back_x : (b : Image) (x y : ℕ) (d : Dir) → left_pixel (south_west b) x y d ≡ true → end_x (end_x x d) (opposite_of d) ≡ x
 back_x b x y North h = refl
 back_x b x y East h = refl
@@ -98,14 +98,14 @@ back_y b x zero South h = absurd (false≢true h)
 back_y b x (suc y) South h = refl
 back_y b x y West h = refl
 
--- the edge that comes to where an edge ends, with its heading, is that edge
+-- the edge that arrives at the end of an edge, with the same heading, is that edge
 pub edge_to-end : (b : Image) (e : Edge) → left_pixel (south_west b) e.x e.y e.heading ≡ true
     → edge_to (end_x e.x e.heading) (end_y e.y e.heading) e.heading ≡ e
 edge_to-end b e h =
     ap (λ u. record { x = u; y = end_y (end_y e.y e.heading) (opposite_of e.heading); heading = e.heading }) (back_x b e.x e.y e.heading h)
     ∙ ap (λ v. record { x = e.x; y = v; heading = e.heading }) (back_y b e.x e.y e.heading h)
 
--- the edge before the one that follows is the edge itself
+-- the edge before the next one is the edge itself
 pub previous-next : (b : Image) (policy : Policy) (sign : Sign) (e : Edge) → IsBoundary b e → previous b policy sign (next b policy sign e) ≡ e
 previous-next b policy sign e h =
     let x : ℕ = end_x e.x e.heading in
@@ -116,12 +116,12 @@ previous-next b policy sign e h =
     (right_behind-end b e.x e.y e.heading h.black_left ∙ h.white_right))
     ∙ edge_to-end b e h.black_left
 
--- so two boundary edges that are followed by one edge are one
+-- two boundary edges with the same next edge are equal
 pub next_once : (b : Image) (policy : Policy) (sign : Sign) (d e : Edge) → IsBoundary b d → IsBoundary b e → next b policy sign d ≡ next b policy sign e → d ≡ e
 next_once b policy sign d e hd he same =
     sym (previous-next b policy sign d hd) ∙ ap (previous b policy sign) same ∙ previous-next b policy sign e he
 
--- what lies behind a corner, on the left of an edge that comes there, lies on that edge's left
+-- the pixel on the left of an edge that arrives at a corner, seen from the corner and from the edge's start
 pub left_pixel-edge_to : (b : Image) (x y : ℕ) (d : Dir) → left_behind (south_west b) x y d ≡ true
     → left_pixel (south_west b) (end_x x (opposite_of d)) (end_y y (opposite_of d)) d ≡ left_behind (south_west b) x y d
 left_pixel-edge_to b zero y North h = absurd (false≢true h)
@@ -142,7 +142,7 @@ right_pixel-edge_to b (suc x) y East h = refl
 right_pixel-edge_to b x y South h = refl
 right_pixel-edge_to b x y West h = refl
 
--- the pixels beside the edge before, for each line of the table
+-- the pixels beside the previous edge, for each line of the table
 left_behind-came_from : (c : ℕ → ℕ → Bool) (x y : ℕ) (l r right : Bool) (d : Dir) → left_behind c x y d ≡ l → right_behind c x y d ≡ r → left_pixel c x y d ≡ true
     → left_behind c x y (came_from l r right d) ≡ true
 left_behind-came_from c x y true false right d el er h = el
@@ -162,7 +162,7 @@ right_behind-came_from c x y false true false d el er h = right_behind-right_of 
 turn_of-at : (l l' r r' right : Bool) (d : Dir) → l ≡ l' → r ≡ r' → turn_of l r right d ≡ turn_of l' r' right d
 turn_of-at l l' r r' right d p q = ap (λ v. turn_of v r right d) p ∙ ap (λ v. turn_of l' v right d) q
 
--- an edge that turns as the table says, from where the table read backwards says, is the edge itself
+-- the table of turns takes the previous edge's heading to this edge's heading
 turn_of-came_from : (c : ℕ → ℕ → Bool) (x y : ℕ) (l r right : Bool) (d : Dir) → left_behind c x y d ≡ l → right_behind c x y d ≡ r
     → left_pixel c x y d ≡ true → right_pixel c x y d ≡ false
     → turn_of (left_pixel c x y (came_from l r right d)) (right_pixel c x y (came_from l r right d)) right (came_from l r right d) ≡ d
@@ -176,7 +176,7 @@ turn_of-came_from c x y false true true d el er hl hr =
 turn_of-came_from c x y false true false d el er hl hr =
     turn_of-at _ false _ true false (right_of d) (left_pixel-right_of c x y d ∙ hr) (right_pixel-right_of c x y d ∙ er) ∙ left_of-right_of d
 
--- the edge before a boundary edge is one too
+-- the edge before a boundary edge is a boundary edge
 pub previous_boundary : (b : Image) (policy : Policy) (sign : Sign) (e : Edge) → IsBoundary b e → IsBoundary b (previous b policy sign e)
 previous_boundary b policy sign e h =
     let d : Dir = (previous b policy sign e).heading in
@@ -202,7 +202,7 @@ end_y-edge_to b x y East h = refl
 end_y-edge_to b x y South h = refl
 end_y-edge_to b x y West h = refl
 
--- the edge that follows the one before is the edge itself
+-- the edge after the previous one is the edge itself
 pub next-previous : (b : Image) (policy : Policy) (sign : Sign) (e : Edge) → IsBoundary b e → next b policy sign (previous b policy sign e) ≡ e
 next-previous b policy sign e h =
     let d : Dir = (previous b policy sign e).heading in

@@ -1,4 +1,4 @@
--- Where boundary edges lie.
+-- A boundary edge and its end lie on the page.
 use Rattle.std.proofs.Common.{◌≡◌, ℕ, zero, suc, ◌≤◌, true, arith}
 use Rattle.std.proofs.lemmas.Bool.{false≢true}
 use Rattle.bit_image.specs.Image.{Image, Fits, south_west}
@@ -8,7 +8,7 @@ use Rattle.turn_policies.specs.declared.edge.Edge.{Edge}
 use Rattle.turn_policies.specs.Heading.{end_x, end_y}
 use Rattle.turn_policies.specs.Boundary.{left_pixel, IsBoundary}
 
--- an edge and its end lie on a page of this width and height, and it doesn't step below zero
+-- an edge and its end lie on a page of this width and height, and no coordinate falls below 0
 pub record IsEdgeOnPage (w h x y : ℕ) (d : Dir) : Type 0 where
   pub x_in : x ≤ w
   pub y_in : y ≤ h
@@ -17,7 +17,8 @@ pub record IsEdgeOnPage (w h x y : ℕ) (d : Dir) : Type 0 where
   pub west : d ≡ West → 1 ≤ x
   pub south : d ≡ South → 1 ≤ y
 
--- left of and below a corner there is black only at a corner of the page that isn't on its left or lower side
+-- if the pixel left of and below a corner is black, the corner lies on the page and not on its left or lower
+-- side
 south_west-in : (b : Image) (w h x y : ℕ) → Fits b w h → south_west b x y ≡ true → (1 ≤ x) × (x ≤ w) × (1 ≤ y) × (y ≤ h)
 south_west-in b w h zero y fits e = absurd (false≢true e)
 south_west-in b w h (suc x) zero fits e = absurd (false≢true e)

@@ -1,4 +1,4 @@
--- Rings of pixels as masks of the word of a square.
+-- A mask of the square's word selects the pixels of a ring.
 use Rattle.std.proofs.Common.{◌≡◌, ℕ, zero, suc, ◌+◌, ◌-◌, ◌*◌, ◌/◌, ◌%◌, ◌^◌, ◌<◌, Bool, cond, ◌&&◌, nat_eq, nat_le, refl, ap, sym, ◌∙◌, inl, inr, arith, add-one}
 use Rattle.std.specs.Int.{bit_at}
 use Rattle.std.specs.Int.RustNames.{bit_and, count_ones}
@@ -11,9 +11,9 @@ use Rattle.bit_image.specs.Words.{is_one}
 use Rattle.bit_image.proofs.Bits.{and_turned, is_one-and}
 use Rattle.turn_policies.specs.Majority.{behind, count_below, sum_below, is_rim, black_in_ring}
 use Rattle.turn_policies.specs.Inner.Square.{IsSquare}
-use Rattle.turn_policies.proofs.Counting.{sum_below-same, count_below-sum}
+use Rattle.turn_policies.proofs.SumsBelow.{sum_below-same, count_below-sum}
 
--- the ones among the first k bits, and those behind
+-- the ones of a word are those among its first k bits and those after them
 ones_first : (n k : ℕ) → count_ones n ≡ sum_below k (λ i. bit_at n i) + count_ones (n / 2 ^ k)
 ones_first n zero = let whole : n ≡ n / 1 = omega arith in omega (arith, ap count_ones whole)
 ones_first n (suc k) =
@@ -26,7 +26,7 @@ as_bit zero h = refl
 as_bit (suc zero) h = refl
 as_bit (suc (suc p)) h = absurd (omega arith)
 
--- the ones of a masked word
+-- the number of ones of a masked word is a sum over its 64 bits
 masked_ones : (n mask : ℕ) → n < 2 ^ 64 → count_ones (bit_and n mask) ≡ sum_below 64 (λ k. cond (is_one mask k && is_one n k) 1 0)
 unfolding is_one
 masked_ones n mask p =
@@ -38,7 +38,7 @@ masked_ones n mask p =
     ∙ sum_below-same 64 (λ k. bit_at m k) (λ k. cond (is_one mask k && is_one n k) 1 0)
     (λ k below. as_bit (bit_at m k) (bit_at-lt m k) ∙ ap (λ t. cond t 1 0) (is_one-and n mask k ∙ and_turned (is_one n k) (is_one mask k)))
 
--- the places of the rings in a square of side 8
+-- the masks have ones exactly in the cells of the rings, in a square of side 8
 shape_2 : (f : ℕ → Bool) → sum_below 64 (λ k. cond (is_one 66125924401152 k && f k) 1 0) ≡ sum_below 4 (λ i. sum_below 4 (λ j. cond (is_rim 4 i j && f (8 * (j + 2) + (i + 2))) 1 0))
 unfolding is_one
 shape_2 f = omega arith
@@ -66,7 +66,7 @@ behind_shift b r d x y =
     ∙ ap (λ n. nat_le (r + d) (x + d) && nat_le (r + d) (y + d) && b n (y - r)) columns
     ∙ ap (λ n. nat_le (r + d) (x + d) && nat_le (r + d) (y + d) && b (x + d - (r + d)) n) rows
 
--- ring r of the square is the corner's ring r
+-- ring r of the square is ring r around the corner
 ring_of : (pixels : ℕ) (b : Image) (x y r d : ℕ) → r + d ≡ 4 → IsSquare pixels b x y
     → sum_below (2 * r) (λ i. sum_below (2 * r) (λ j. cond (is_rim (2 * r) i j && is_one pixels (8 * (j + d) + (i + d))) 1 0)) ≡ black_in_ring b x y r
 unfolding black_in_ring

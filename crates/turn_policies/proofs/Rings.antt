@@ -1,4 +1,4 @@
--- Counting along the rim of a square.
+-- Ring r has 8r - 4 pixels.
 use Rattle.std.proofs.Common.{◌≡◌, ℕ, zero, suc, ◌+◌, ◌-◌, ◌*◌, ◌<◌, ◌≤◌, Bool, true, false, cond, not, ◌&&◌, refl, ◌∙◌, arith}
 use Rattle.bit_image.specs.Image.{Image}
 use Rattle.turn_policies.specs.Majority.{behind, count_below, sum_below, is_rim, black_in_ring, white_in_ring}
@@ -17,7 +17,7 @@ sum_below-parts : (n m : ℕ) (t f : ℕ → ℕ → Bool)
 sum_below-parts zero m t f = refl
 sum_below-parts (suc n) m t f = omega (arith, sum_below-parts n m t f, count_below-parts m (t n) (f n))
 
--- the rims of the squares of side 4, 6 and 8 have 12, 20 and 28 places
+-- the rims of the squares of side 4, 6 and 8 have 12, 20 and 28 cells
 rim_size : (r : ℕ) → 2 ≤ r → r < 5 → sum_below (2 * r) (λ i. count_below (2 * r) (is_rim (2 * r) i)) ≡ 8 * r - 4
 rim_size zero p q = absurd (omega arith)
 rim_size (suc zero) p q = absurd (omega arith)
@@ -26,7 +26,7 @@ rim_size (suc (suc (suc zero))) p q = refl
 rim_size (suc (suc (suc (suc zero)))) p q = refl
 rim_size (suc (suc (suc (suc (suc r))))) p q = absurd (omega arith)
 
--- so many pixels of a ring are black or white
+-- the black and white pixels of a ring are 8r - 4 together
 pub ring_size : (b : Image) (x y r : ℕ) → 2 ≤ r → r < 5 → black_in_ring b x y r + white_in_ring b x y r ≡ 8 * r - 4
 unfolding black_in_ring white_in_ring
 ring_size b x y r p q =

@@ -1,4 +1,4 @@
--- A row of pixels around a column, and eight of them as a square.
+-- The square around a corner is read row by row, and each row from one or two words of the page.
 use Rattle.std.proofs.Common.{◌≡◌, ℕ, zero, suc, ◌+◌, ◌-◌, ◌*◌, ◌/◌, ◌%◌, ◌^◌, ◌<◌, ◌≤◌, Bool, true, false, ◌&&◌, ◌||◌, nat_eq, nat_le, nat_lt, List, ◌∷◌, get_or, refl, ap, sym, ◌∙◌, inl, inr, arith}
 use Rattle.std.specs.Int.RustNames.{bit_and, bit_or}
 use Rattle.std.proofs.lemmas.Bool.{cases_lt, cases_order, le-leb, lt-leb, lt-ltb, le-ltb}
@@ -14,7 +14,7 @@ or_false : (b : Bool) → b || false ≡ b
 or_false true = refl
 or_false false = refl
 
--- ---- a row with a white word in front
+-- ---- a row with a white word before its own words
 
 behind_front : (row : List ℕ) (c : ℕ) → black_in (0 ∷ row) (64 + c) ≡ black_in row c
 unfolding black_in
@@ -29,7 +29,7 @@ white_front row c p =
     let word : c / 64 ≡ zero = omega arith in
     rw word (is_one-zero (c % 64))
 
--- its pixels are those of the row 4 rows below, 4 columns to the left
+-- the row's pixels are those of the page 4 rows below, from 4 columns to the left
 pub in_row : (b : Image) (row : List ℕ) (x y i : ℕ) → 4 ≤ y → ((u : ℕ) → black_in row u ≡ b u (y - 4)) → black_in (0 ∷ row) (x + 60 + i) ≡ behind b 4 (x + i) y
 in_row b row x y i high same = elim (cases_lt (x + i) 4) [
   | inl left ↦
@@ -45,7 +45,7 @@ and_false : (a : Bool) → a && false ≡ false
 and_false true = refl
 and_false false = refl
 
--- a row that the page doesn't have
+-- a row outside the page is white
 pub no_row : (b : Image) (x y i : ℕ) → (4 ≤ y → b (x + i - 4) (y - 4) ≡ false) → behind b 4 (x + i) y ≡ false
 no_row b x y i white = elim (cases_lt y 4) [
   | inl low ↦ ap (λ t. nat_le 4 (x + i) && t && b (x + i - 4) (y - 4)) (lt-leb 4 y low) ∙ ap (λ t. t && b (x + i - 4) (y - 4)) (and_false (nat_le 4 (x + i)))
@@ -89,7 +89,7 @@ eight_over row from i p over fits =
 
 -- ---- eight rows
 
--- the first j rows of a square of bits are there
+-- the first j rows of a square have been read
 abbrev pub IsFilledTo : ℕ → ℕ → (ℕ → ℕ → Bool) → Type 0
 IsFilledTo j pixels f = (i k : ℕ) → i < 8 → k < 8 → is_one pixels (8 * k + i) ≡ nat_lt k j && f i k
 
@@ -121,7 +121,7 @@ more_filled pixels row j f short small before here = λ i k p q.
 pub all_filled : (pixels : ℕ) (f : ℕ → ℕ → Bool) → IsFilledTo 8 pixels f → (i j : ℕ) → i < 8 → j < 8 → is_one pixels (8 * j + i) ≡ f i j
 all_filled pixels f whole = λ i j p q. whole i j p q ∙ ap (λ t. t && f i j) (lt-ltb j 8 q)
 
--- the first j rows of the pixels around a corner are there
+-- the first j rows of the square around a corner have been read
 abbrev pub IsSquareTo : ℕ → ℕ → Image → ℕ → ℕ → Type 0
 IsSquareTo j pixels b x y = IsFilledTo j pixels (λ i k. behind b 4 (x + i) (y + k))
 
@@ -135,7 +135,7 @@ next_row pixels row j b x y short small before here = more_filled pixels row j (
 pub all_rows : (pixels : ℕ) (b : Image) (x y : ℕ) → IsSquareTo 8 pixels b x y → (i j : ℕ) → i < 8 → j < 8 → is_one pixels (8 * j + i) ≡ behind b 4 (x + i) (y + j)
 all_rows pixels b x y whole = all_filled pixels (λ i k. behind b 4 (x + i) (y + k)) whole
 
--- a pixel that lies on the page
+-- a pixel inside the page is read from the row's own words
 pub in_page : (b : Image) (row : List ℕ) (x y i : ℕ) → 4 ≤ x → 4 ≤ y → ((u : ℕ) → black_in row u ≡ b u (y - 4)) → black_in row (x - 4 + i) ≡ behind b 4 (x + i) y
 in_page b row x y i right high same =
     let place : x - 4 + i ≡ x + i - 4 = omega arith in
@@ -143,7 +143,7 @@ in_page b row x y i right high same =
     ap (black_in row) place ∙ same (x + i - 4)
     ∙ sym (ap (λ t. t && nat_le 4 y && b (x + i - 4) (y - 4)) (le-leb 4 (x + i) left) ∙ ap (λ t. t && b (x + i - 4) (y - 4)) (le-leb 4 y high))
 
--- the image that shows a word's bits as a square with its lowest row in row 0
+-- the image that shows a word as a square, with its lowest row in row 0
 abbrev pub word_image : ℕ → Image
 word_image pixels u v = is_one pixels (8 * v + u)
 

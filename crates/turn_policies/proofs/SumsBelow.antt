@@ -1,4 +1,4 @@
--- Sums over numbers and over lists.
+-- Sums over the first n numbers: equal terms give equal sums, and some sums have a closed form.
 use Rattle.std.proofs.Common.{◌≡◌, ℕ, zero, suc, ◌+◌, ◌-◌, ◌<◌, Bool, true, false, cond, ◌&&◌, nat_eq, nat_le, refl, ◌∙◌, arith}
 use Rattle.std.proofs.lemmas.Bool.Decides.{nat_tests}
 use Rattle.turn_policies.specs.Majority.{count_below, sum_below}
@@ -30,14 +30,14 @@ count_below-sum (suc n) f =
     one_more true a b e = omega arith
     one_more false a b e = omega arith
 
--- of the first n numbers those from a on are n - a
+-- n - a of the first n numbers are at least a
 pub sum_below-from : (n a : ℕ) → sum_below n (λ k. cond (nat_le a k) 1 0) ≡ n - a
 sum_below-from zero a = omega arith
 sum_below-from (suc n) a =
     let rest : sum_below n (λ k. cond (nat_le a k) 1 0) ≡ n - a = sum_below-from n a in
     grind (arith, nat_tests)
 
--- and the sum over those equal to c is one term
+-- a sum in which only the term of c isn't 0 is that term
 pub sum_below-at : (n c m : ℕ) → sum_below n (λ k. cond (nat_eq c k) m 0) ≡ cond (nat_le n c) 0 m
 sum_below-at zero c m = grind (arith, nat_tests)
 sum_below-at (suc n) c m =
@@ -52,7 +52,7 @@ and_false : (a : Bool) (n : ℕ) → cond (a && false) n 0 ≡ 0
 and_false true n = refl
 and_false false n = refl
 
--- a condition that doesn't depend on the number
+-- a condition that doesn't depend on the number can be taken out of a sum
 pub sum_below-if : (n : ℕ) (t : Bool) (f : ℕ → Bool) → sum_below n (λ k. cond (f k && t) 1 0) ≡ cond t (sum_below n (λ k. cond (f k) 1 0)) 0
 sum_below-if n true f = sum_below-same n (λ k. cond (f k && true) 1 0) (λ k. cond (f k) 1 0) (λ k below. and_true (f k) 1)
 sum_below-if n false f = sum_below-same n (λ k. cond (f k && false) 1 0) (λ k. 0) (λ k below. and_false (f k) 1) ∙ sum_below-zero n

@@ -1,4 +1,4 @@
--- A turned edge has black on its left and white on its right again.
+-- The edge that follows a boundary edge is a boundary edge, and it doesn't go back.
 use Rattle.std.proofs.Common.{◌≡◌, ◌≢◌, ℕ, zero, suc, Bool, true, false, refl, ap, sym, ◌∙◌}
 use Rattle.std.proofs.lemmas.Bool.{false≢true}
 use Rattle.pt_core.specs.declared.path.Sign.{Sign}
@@ -12,21 +12,21 @@ use Rattle.turn_policies.specs.Boundary.{left_pixel, right_pixel, IsBoundary}
 use Rattle.turn_policies.specs.Majority.{major}
 use Rattle.turn_policies.specs.Turn.{goes_right, turn_of, turn, next}
 
--- the pixel behind a corner, on the left of the edge that came there
+-- the pixel on the left of the edge that arrives at a corner
 abbrev pub left_behind : (ℕ → ℕ → Bool) → ℕ → ℕ → Dir → Bool
 left_behind c x y North = c x y
 left_behind c x y East = c x (suc y)
 left_behind c x y South = c (suc x) (suc y)
 left_behind c x y West = c (suc x) y
 
--- and the one on its right
+-- the pixel on the right of the edge that arrives at a corner
 abbrev pub right_behind : (ℕ → ℕ → Bool) → ℕ → ℕ → Dir → Bool
 right_behind c x y North = c (suc x) y
 right_behind c x y East = c x y
 right_behind c x y South = c x (suc y)
 right_behind c x y West = c (suc x) (suc y)
 
--- The four pixels around a corner, as an edge sees them that turns there.
+-- the edges to the left, right and ahead share pixels with the edge that arrives at a corner
 pub left_pixel-left_of : (c : ℕ → ℕ → Bool) (x y : ℕ) (d : Dir) → left_pixel c x y (left_of d) ≡ left_behind c x y d
 left_pixel-left_of c x y North = refl
 left_pixel-left_of c x y East = refl
@@ -51,7 +51,7 @@ right_pixel-right_of c x y East = refl
 right_pixel-right_of c x y South = refl
 right_pixel-right_of c x y West = refl
 
--- No black pixel lies on the margin, so what lies beside a boundary edge lies behind its end.
+-- no pixel outside the page is black, so a boundary edge's left pixel is the same seen from its end
 pub left_behind-end : (b : Image) (x y : ℕ) (d : Dir) → left_pixel (south_west b) x y d ≡ true
     → left_behind (south_west b) (end_x x d) (end_y y d) d ≡ left_pixel (south_west b) x y d
 left_behind-end b x y North h = refl
@@ -70,7 +70,7 @@ right_behind-end b x (suc y) South h = refl
 right_behind-end b zero y West h = absurd (false≢true h)
 right_behind-end b (suc x) y West h = refl
 
--- the left pixel after a turn, for each line of the table
+-- after a turn the left pixel is black, for each line of the table
 pub left_pixel-turn_of : (c : ℕ → ℕ → Bool) (x y : ℕ) (l r g : Bool) (d : Dir) → left_pixel c x y d ≡ l → right_pixel c x y d ≡ r
     → left_behind c x y d ≡ true → left_pixel c x y (turn_of l r g d) ≡ true
 left_pixel-turn_of c x y false true true d el er h = left_pixel-right_of c x y d ∙ er
@@ -79,7 +79,7 @@ left_pixel-turn_of c x y true true g d el er h = left_pixel-right_of c x y d ∙
 left_pixel-turn_of c x y false false g d el er h = left_pixel-left_of c x y d ∙ h
 left_pixel-turn_of c x y true false g d el er h = el
 
--- and the right one
+-- after a turn the right pixel is white, for each line of the table
 pub right_pixel-turn_of : (c : ℕ → ℕ → Bool) (x y : ℕ) (l r g : Bool) (d : Dir) → left_pixel c x y d ≡ l → right_pixel c x y d ≡ r
     → right_behind c x y d ≡ false → right_pixel c x y (turn_of l r g d) ≡ false
 right_pixel-turn_of c x y false true true d el er h = right_pixel-right_of c x y d ∙ h
@@ -88,7 +88,7 @@ right_pixel-turn_of c x y true true g d el er h = right_pixel-right_of c x y d �
 right_pixel-turn_of c x y false false g d el er h = right_pixel-left_of c x y d ∙ el
 right_pixel-turn_of c x y true false g d el er h = er
 
--- the edge that follows a boundary edge is one too
+-- the edge that follows a boundary edge is a boundary edge
 pub next_boundary : (b : Image) (policy : Policy) (sign : Sign) (e : Edge) → IsBoundary b e → IsBoundary b (next b policy sign e)
 next_boundary b policy sign e h =
     let x : ℕ = end_x e.x e.heading in
@@ -129,7 +129,7 @@ onwards true true right d = right_of≢opposite_of d
 onwards false false right d = left_of≢opposite_of d
 onwards true false right d = same≢opposite_of d
 
--- the edge at an edge's end, on which the turn there leads, is the next one
+-- the edge that leaves an edge's end in the direction of the turn is the next one
 pub next_is : (b : Image) (policy : Policy) (sign : Sign) (e n : Edge) (d : Dir) (x y : ℕ) → e.heading ≡ d → x ≡ end_x e.x d → y ≡ end_y e.y d
     → n.x ≡ x → n.y ≡ y → n.heading ≡ turn b policy sign x y d → n ≡ next b policy sign e
 next_is b policy sign e n d x y is column row nx ny nh =

@@ -1,12 +1,12 @@
--- Boundary edges: unit edges with black on the left and white on the right (Selinger, "Potrace", 2003,
--- section 2.1.1).
+-- Boundary edges: unit edges with black on the left and white on the right (Selinger, "Potrace",
+-- 2003, section 2.1.1).
 use Rattle.std.specs.Prelude.{◌≡◌, ℕ, suc, Bool, true, false}
 use Rattle.bit_image.specs.Image.{Image, south_west}
 use Rattle.turn_policies.specs.declared.heading.Dir.{Dir}
 use Rattle.turn_policies.specs.declared.heading.Dir.TheVariants.{North, East, South, West}
 use Rattle.turn_policies.specs.declared.edge.Edge.{Edge}
 
--- the pixel on the left of the unit edge that leaves corner (x, y) in a direction, where `c` tells the
+-- the pixel on the left of the edge that leaves corner (x, y) in a direction, if `c` gives the
 -- pixel left of and below each corner
 abbrev pub left_pixel : (ℕ → ℕ → Bool) → ℕ → ℕ → Dir → Bool
 left_pixel c x y North = c x (suc y)
@@ -14,7 +14,7 @@ left_pixel c x y East = c (suc x) (suc y)
 left_pixel c x y South = c (suc x) y
 left_pixel c x y West = c x y
 
--- the pixel on the right of that edge
+-- the pixel on the right of the edge that leaves corner (x, y) in a direction
 abbrev pub right_pixel : (ℕ → ℕ → Bool) → ℕ → ℕ → Dir → Bool
 right_pixel c x y North = c (suc x) (suc y)
 right_pixel c x y East = c (suc x) y

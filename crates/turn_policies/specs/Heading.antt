@@ -1,4 +1,4 @@
--- The four directions along the unit grid, and the corner that a step in each leads to.
+-- The four directions along the unit grid, and the corner that a step in each direction leads to.
 use Rattle.std.specs.Prelude.{ℕ, suc, pred}
 use Rattle.turn_policies.specs.declared.heading.Dir.{Dir}
 use Rattle.turn_policies.specs.declared.heading.Dir.TheVariants.{North, East, South, West}

@@ -1,2 +1,2 @@
--- What inner contracts alone speak of: no promise rests on it.
+-- Definitions for inner contracts: no promise rests on them.
 pub mod Square

@@ -8,14 +8,14 @@ ghost use Rattle.turn_policies.specs.Inner.Square.{IsSquare};
 
 use bit_image::Bitmap;
 
-/// The square of 64 pixels with corner (x, y) at its middle: bits 0 to 7 are its lowest row from the
-/// left, bits 8 to 15 the next one, and so on.
+/// The square of 64 pixels around corner (x, y). Bits 0 to 7 are its lowest row from the left, bits 8 to 15 the
+/// next row, and so on.
 pub(crate) fn square(page: &Bitmap, x: u32, y: u32) -> u64
     requires x { x ≤ 32767 }
     requires y { y ≤ 32767 }
     ensures { IsSquare result (image_of page.now) x y }
 {
-    // Nearly all squares lie on the page, and most of these in one word of each row.
+    // Most squares lie inside the page, and each of their rows lies in one word.
     let (width, height) = (page.width(), page.height());
     if x >= 4 && x < width && (x - 4) % 64 <= 56 && y >= 4 && y + 4 <= height {
         inner_square(page, x, y)
@@ -24,7 +24,7 @@ pub(crate) fn square(page: &Bitmap, x: u32, y: u32) -> u64
     }
 }
 
-/// The square around a corner that isn't near the page's sides, where each row's pixels lie in one word.
+/// The square around a corner, if it lies inside the page and each of its rows lies in one word of the page.
 fn inner_square(page: &Bitmap, x: u32, y: u32) -> u64
     requires left { 4 ≤ x }
     requires right { x < page.now.width }
@@ -33,7 +33,7 @@ fn inner_square(page: &Bitmap, x: u32, y: u32) -> u64
     requires high { y + 4 ≤ page.now.height }
     ensures { IsSquare result (image_of page.now) x y }
 {
-    // The sides are asked, so that the proof sees that a page is small.
+    // The width is read so that the prover knows the page's invariant: a page is small.
     let _ = page.width();
     let mut pixels = 0;
     for j in 0..8 {
@@ -42,7 +42,8 @@ fn inner_square(page: &Bitmap, x: u32, y: u32) -> u64
     pixels
 }
 
-/// The 8 pixels 4 rows below row `y`, from 4 columns left of column `x` on.
+/// Eight pixels of the row 4 rows below row `y`, starting 4 columns left of column `x`. They lie in one word of
+/// the page.
 fn inner_row(page: &Bitmap, x: u32, y: u32) -> u64
     requires left { 4 ≤ x }
     requires right { x < page.now.width }
@@ -55,7 +56,7 @@ fn inner_row(page: &Bitmap, x: u32, y: u32) -> u64
     page.row_words(y - 4)[(x as usize - 4) / 64] >> ((x - 4) % 64) & 0xFF
 }
 
-/// The square around any corner.
+/// The square around any corner. Pixels outside the page are white.
 fn any_square(page: &Bitmap, x: u32, y: u32) -> u64
     requires x { x ≤ 32767 }
     requires y { y ≤ 32767 }
@@ -68,13 +69,14 @@ fn any_square(page: &Bitmap, x: u32, y: u32) -> u64
     pixels
 }
 
-/// The 8 pixels 4 rows below row `y`, from 4 columns left of column `x` on.
+/// Eight pixels of the row 4 rows below row `y`, starting 4 columns left of column `x`. Pixels outside the page
+/// are white.
 fn row_behind(page: &Bitmap, x: u32, y: u32) -> u64
     requires { x ≤ 32767 }
     ensures pixels { (i : ℕ) → i < 8 → is_one result i ≡ behind (image_of page.now) 4 (x + i) y }
     ensures small { result < 2 ^ 8 }
 {
-    // Below row 0 this goes round to the greatest numbers, above any page.
+    // If the row lies below row 0, this wraps around to a row above any page.
     let row = y.wrapping_sub(4);
     if row >= page.height() {
         return 0;
@@ -82,7 +84,7 @@ fn row_behind(page: &Bitmap, x: u32, y: u32) -> u64
     eight(page.row_words(row), x + 60)
 }
 
-/// The 8 pixels from column `from` on of a row with a white word in front.
+/// Eight pixels, starting at column `from`, of a row that has a white word before its own words.
 fn eight(row: &[u64], from: u32) -> u64
     requires { from ≤ 65535 }
     ensures pixels { (i : ℕ) → i < 8 → is_one result i ≡ black_in (0 ∷ row.now) (from + i) }
@@ -97,7 +99,7 @@ fn eight(row: &[u64], from: u32) -> u64
     }
 }
 
-/// A word of a row with a white word in front.
+/// Word `at` of a row that has a white word before its own words. Words beyond the row are white.
 fn word(row: &[u64], at: usize) -> u64
     ensures { result ≡ slice_index_or (0 ∷ row.now) at 0 }
 {

@@ -1,7 +1,7 @@
 //! The four directions along the grid.
 ghost use Rattle.std.specs.Prelude.{◌≡◌};
 
-/// A direction along the edges of pixels: north is up, towards greater rows.
+/// A direction along the edges of pixels. North is up, towards greater rows.
 #[derive(Clone, Copy, Debug, PartialEq, Eq)]
 pub enum Dir {
     North,

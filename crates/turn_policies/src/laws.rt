@@ -1,4 +1,4 @@
-//! What the walk along a boundary rests on.
+//! Laws about boundary edges, on which the walk along a boundary rests.
 ghost use Rattle.std.specs.Prelude.{◌≡◌, ◌≢◌, ◌≤◌, ℕ};
 ghost use Rattle.pt_core.specs.declared.path.Sign.{Sign};
 ghost use Rattle.pt_core.specs.declared.policy.Policy.{Policy};
@@ -8,7 +8,7 @@ ghost use Rattle.turn_policies.specs.Heading.{opposite_of};
 ghost use Rattle.turn_policies.specs.Turn.{next};
 ghost use Rattle.turn_policies.specs.declared.edge.Edge.{Edge};
 
-/// The edge that follows a boundary edge is a boundary edge too, and doesn't go back.
+/// The edge that follows a boundary edge is a boundary edge too, and it doesn't go back.
 pub fn edges_lead_on()
     ensures boundary { (b : Image) (policy : Policy) (sign : Sign) (e : Edge)
         → IsBoundary b e → IsBoundary b (next b policy sign e) }

@@ -1,7 +1,7 @@
-//! Which way a boundary path turns at a corner of four pixels.
+//! Which way a boundary path turns at a corner between four pixels.
 //!
-//! A path runs along pixel edges with black on its left. At each corner it looks at the two pixels
-//! ahead and goes straight on, left or right.
+//! A path runs along pixel edges with black on its left. At each corner it looks at the two pixels ahead and
+//! goes straight on, left or right.
 #![tactic(auto)]
 
 mod around;

@@ -1,4 +1,4 @@
-//! The colour in the majority around a corner.
+//! The colour of the majority around a corner.
 ghost use Rattle.std.specs.Prelude.{◌≡◌, ℕ, ◌≤◌, nat_abs};
 ghost use Rattle.bit_image.specs.Image.{Image};
 ghost use Rattle.bit_image.specs.Page.{image_of};
@@ -10,17 +10,17 @@ use crate::around::square;
 use bit_image::Bitmap;
 use pt_core::Point;
 
-/// Whether black is in the majority around a corner.
+/// Whether black is the majority around a corner.
 ///
-/// The rings of 12, 20 and 28 pixels around the corner are asked in turn, and the first one with
-/// more of one colour decides. After three ties black isn't in the majority.
+/// The rings of 12, 20 and 28 pixels around the corner are counted from the inside out. The first ring that has
+/// more of one colour decides. If all three rings tie, the result is false.
 ///
 /// ```text
 ///     4 4 4 4 4 4 4 4
 ///     4 3 3 3 3 3 3 4
 ///     4 3 2 2 2 2 3 4
 ///     4 3 2 . . 2 3 4
-///     4 3 2 . . 2 3 4     the corner is the middle of the square
+///     4 3 2 . . 2 3 4     the corner is in the middle of the square
 ///     4 3 2 2 2 2 3 4
 ///     4 3 3 3 3 3 3 4
 ///     4 4 4 4 4 4 4 4
@@ -32,7 +32,7 @@ pub fn major(page: &Bitmap, at: Point) -> bool
     major_at(page, at.x as u32, at.y as u32)
 }
 
-/// Whether black is in the majority around corner (x, y).
+/// Whether black is the majority around corner (x, y).
 pub(crate) fn major_at(page: &Bitmap, x: u32, y: u32) -> bool
     requires x { x ≤ 32767 }
     requires y { y ≤ 32767 }
@@ -41,10 +41,11 @@ pub(crate) fn major_at(page: &Bitmap, x: u32, y: u32) -> bool
     major_in(square(page, x, y))
 }
 
-/// Whether black is in the majority around the corner at the middle of a square of 64 pixels: bits 0 to 7 are its
-/// lowest row from the left, bits 8 to 15 the next one, and so on.
+/// Whether black is the majority around the corner in the middle of a square of 64 pixels. Bits 0 to 7 of the
+/// square are its lowest row from the left, bits 8 to 15 the next row, and so on.
 //
-// Black alone is counted, by a mask for each ring, since a ring has 8r - 4 pixels, which is a lemma.
+// Only black pixels are counted, with a mask for each ring. A ring has 8r - 4 pixels (a lemma), so the others
+// are white.
 pub fn major_in(pixels: u64) -> bool
     ensures { (b : Image) (x y : ℕ) → IsSquare pixels b x y → result ≡ major b x y }
 {
@@ -58,7 +59,7 @@ pub fn major_in(pixels: u64) -> bool
     false
 }
 
-/// How many pixels of a ring are black in a square of 64 pixels around a corner.
+/// The number of black pixels in ring `radius` of a square of 64 pixels around a corner.
 fn black_around(pixels: u64, radius: u32) -> u32
     requires least { 2 ≤ radius }
     requires most { radius ≤ 4 }

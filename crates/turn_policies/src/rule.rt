@@ -14,7 +14,7 @@ use crate::majority::major_at;
 use bit_image::Bitmap;
 use pt_core::{Point, Policy, Sign};
 
-/// Where a path goes on that comes to a corner with a heading.
+/// The direction in which a path leaves corner `at`, if it arrives there with this heading.
 ///
 /// | Ahead on the right | Ahead on the left | Turn |
 /// |---|---|---|
@@ -29,7 +29,7 @@ pub fn turn(page: &Bitmap, at: Point, heading: Dir, policy: Policy, sign: Sign) 
     turn_at(page, at.x as u32, at.y as u32, heading, policy, sign)
 }
 
-/// Where a path goes on that comes to corner (x, y) with a heading.
+/// The direction in which a path leaves corner (x, y), if it arrives there with this heading.
 #[inline(always)]
 pub(crate) fn turn_at(
     page: &Bitmap,
@@ -57,17 +57,17 @@ pub(crate) fn turn_at(
     }
 }
 
-/// The edge that follows an edge of a boundary: it is one too.
+/// The edge that follows a boundary edge. It is a boundary edge too.
 pub fn next(page: &Bitmap, edge: Edge, policy: Policy, sign: Sign) -> Edge
     requires { IsBoundary (image_of page.now) edge }
     ensures value { result ≡ next (image_of page.now) policy sign edge }
     ensures boundary { IsBoundary (image_of page.now) result }
 {
-    // A boundary edge lies on the page, so its end has small coordinates too.
+    // A boundary edge lies on the page, so the coordinates of its end are small.
     let (width, height) = (page.width(), page.height());
     prove!(edge.x <= width && edge.y <= height);
     let Edge { x, y, heading } = edge;
-    // Each heading has code of its own, so that the processor foresees a walk's turns better.
+    // Each heading has its own code, so that the processor predicts a walk's turns better.
     match heading {
         Dir::North => turned_at(page, x, y + 1, Dir::North, policy, sign),
         Dir::East => turned_at(page, x + 1, y, Dir::East, policy, sign),
@@ -76,7 +76,7 @@ pub fn next(page: &Bitmap, edge: Edge, policy: Policy, sign: Sign) -> Edge
     }
 }
 
-/// The edge on which a path goes on that comes to corner (x, y) with a heading.
+/// The edge on which a path leaves corner (x, y), if it arrives there with this heading.
 #[inline(always)]
 pub fn turned_at(page: &Bitmap, x: u32, y: u32, heading: Dir, policy: Policy, sign: Sign) -> Edge
     requires x { x ≤ 32767 }
@@ -105,7 +105,7 @@ fn pixels_ahead(page: &Bitmap, x: u32, y: u32, heading: Dir) -> (bool, bool)
     }
 }
 
-/// Whether the policy turns right at corner (x, y), where the pixels ahead leave a choice.
+/// Whether the policy turns right at corner (x, y), if the pixels ahead leave a choice.
 #[inline(never)]
 fn chooses_right(page: &Bitmap, x: u32, y: u32, policy: Policy, sign: Sign) -> bool
     requires x { x ≤ 32767 }
@@ -116,7 +116,7 @@ fn chooses_right(page: &Bitmap, x: u32, y: u32, policy: Policy, sign: Sign) -> b
     goes_right(policy, sign, more)
 }
 
-/// Whether a policy asks for the colour in the majority.
+/// Whether a policy depends on the colour of the majority.
 #[inline(always)]
 pub fn asks_majority(policy: Policy) -> bool
     ensures { result ≡ false → (sign : Sign) (more other : Bool)
@@ -125,9 +125,9 @@ pub fn asks_majority(policy: Policy) -> bool
     matches!(policy, Policy::Majority | Policy::Minority)
 }
 
-/// Whether a policy turns right where the pixels ahead leave a choice.
+/// Whether a policy turns right if the pixels ahead leave a choice.
 ///
-/// Where it doesn't ask for the majority, any `black_is_more` serves.
+/// If the policy doesn't depend on the majority, `black_is_more` may be any value.
 #[inline(always)]
 pub fn goes_right(policy: Policy, sign: Sign, black_is_more: bool) -> bool
     ensures { result ≡ goes_right policy sign black_is_more }

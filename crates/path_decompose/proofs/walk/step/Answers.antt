@@ -9,7 +9,7 @@ use Rattle.turn_policies.specs.declared.edge.Edge.{Edge}
 use Rattle.turn_policies.specs.declared.heading.Dir.{Dir}
 use Rattle.turn_policies.specs.declared.heading.Dir.TheVariants.{North, East, South, West}
 use Rattle.turn_policies.specs.Heading.{end_x, end_y}
-use Rattle.turn_policies.proofs.Turning.{next_boundary, next_is}
+use Rattle.turn_policies.proofs.TurnedEdges.{next_boundary, next_is}
 use Rattle.path_decompose.proofs.OnPage.{edge_on}
 use Rattle.path_decompose.proofs.Runs.{past_sides}
 use Rattle.path_decompose.proofs.walk.step.Goals as goal

@@ -1,4 +1,4 @@
--- One row more, and at the end all eight.
+-- Each step reads one more row, and in the end all eight rows are read.
 use Rattle.std.proofs.Common.{◌≡◌, subst, arith}
 use Rattle.bit_image.specs.Page.{image_of}
 use Rattle.turn_policies.proofs.Square.{IsSquareTo, no_rows, next_row, all_rows}

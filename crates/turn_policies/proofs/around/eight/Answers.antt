@@ -1,4 +1,4 @@
--- One word has all eight, or two have some each.
+-- The eight pixels lie in one word or in two neighbouring words.
 use Rattle.std.proofs.Common.{◌-◌, ◌*◌, ◌/◌, ◌%◌, ◌^◌, ◌∷◌, ◌∙◌, get_or, bit_and, bit_or, ap, arith}
 use Rattle.bit_image.specs.Words.{is_one}
 use Rattle.turn_policies.proofs.Square.{eight_within, eight_over}

@@ -1,4 +1,4 @@
--- One word of the row has all eight.
+-- One word of the row has all eight pixels.
 use Rattle.std.proofs.Common.{◌-◌, ◌∙◌}
 use Rattle.bit_image.specs.Page.{image_of}
 use Rattle.bit_image.proofs.Packed.{black_in-bits}

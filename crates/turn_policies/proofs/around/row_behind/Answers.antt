@@ -1,4 +1,4 @@
--- The row's words have the page's pixels; a row that the page doesn't have is white.
+-- The row's words have the page's pixels, and a row outside the page is white.
 use Rattle.std.proofs.Common.{◌≡◌, ◌≤◌, ◌-◌, ◌+◌, ◌%◌, ◌∙◌, ap, sym, arith}
 use Rattle.std.proofs.lemmas.Bool.{false_from_ne_true}
 use Rattle.bit_image.specs.Page.{image_of}

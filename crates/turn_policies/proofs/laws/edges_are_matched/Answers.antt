@@ -1,4 +1,4 @@
--- The one is the table of turns, read backwards.
+-- The boundary edge that an edge follows is given by the table of turns, read backwards.
 use Rattle.turn_policies.proofs.Back.{previous, previous_boundary, next-previous, next_once}
 use Rattle.turn_policies.proofs.laws.edges_are_matched.Goals as goal
 

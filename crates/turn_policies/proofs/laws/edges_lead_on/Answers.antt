@@ -1,5 +1,5 @@
--- Each is a lemma.
-use Rattle.turn_policies.proofs.Turning.{next_boundary, onwards}
+-- Lemmas of `TurnedEdges` are the clauses.
+use Rattle.turn_policies.proofs.TurnedEdges.{next_boundary, onwards}
 use Rattle.turn_policies.proofs.laws.edges_lead_on.Goals as goal
 
 pub returns-clause-boundary : goal.returns-clause-boundary

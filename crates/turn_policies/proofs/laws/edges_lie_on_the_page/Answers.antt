@@ -1,4 +1,4 @@
--- Each is a lemma.
+-- A lemma of `OnPage` gives the clauses.
 use Rattle.turn_policies.proofs.OnPage.{IsEdgeOnPage-boundary}
 use Rattle.turn_policies.proofs.laws.edges_lie_on_the_page.Goals as goal
 

@@ -1,7 +1,7 @@
--- The ones under each mask.
+-- The ones under each mask are the black pixels of a ring.
 use Rattle.std.proofs.Common.{◌≡◌, sym, ap, ◌∙◌, arith}
 use Rattle.turn_policies.specs.Majority.{black_in_ring}
-use Rattle.turn_policies.proofs.Ring.{ones_2, ones_3, ones_4}
+use Rattle.turn_policies.proofs.RingMasks.{ones_2, ones_3, ones_4}
 use Rattle.turn_policies.proofs.majority.black_around.Goals as goal
 
 pub returns-in-2 : goal.returns-in-2

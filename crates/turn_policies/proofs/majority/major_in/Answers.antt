@@ -1,4 +1,4 @@
--- The rings before the one that is looked at tie, and a ring's pixels are black or white.
+-- The rings inside the current one tie, and each pixel of a ring is black or white.
 use Rattle.std.proofs.Common.{◌≡◌, ◌*◌, ◌-◌, nat_lt, ◌∙◌, ap, sym, inl, inr, arith}
 use Rattle.std.proofs.lemmas.Bool.{cases_eq}
 use Rattle.turn_policies.specs.Majority.{black_in_ring, white_in_ring}

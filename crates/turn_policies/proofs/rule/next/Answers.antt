@@ -1,11 +1,11 @@
--- The edge that follows a boundary edge is one too. Where an edge goes north or east, its end still lies on
--- the page, so it is as near as a corner has to be.
+-- The edge that follows a boundary edge is one too. The end of an edge to the north or east still lies on the
+-- page, so its coordinates are small enough for a corner.
 use Rattle.std.proofs.Common.{◌≡◌, suc, ◌-◌, ◌≤◌, pred, refl, subst, arith}
 use Rattle.bit_image.specs.Page.{image_of}
 use Rattle.turn_policies.specs.Heading.{end_x, end_y}
 use Rattle.turn_policies.specs.declared.heading.Dir.TheVariants.{South, West}
 use Rattle.turn_policies.proofs.OnPage.{IsEdgeOnPage-boundary}
-use Rattle.turn_policies.proofs.Turning.{next_is}
+use Rattle.turn_policies.proofs.TurnedEdges.{next_is}
 use Rattle.turn_policies.proofs.rule.next.Goals as goal
 
 pub turned_at-requires-clause-y : goal.turned_at-requires-clause-y
