@@ -1,4 +1,4 @@
--- A pixel that the bounds of a path leave out isn't inside it.
+-- A pixel outside the bounds of a path isn't inside the path.
 use Rattle.std.proofs.Common.{◌≡◌, ℕ, ◌/◌, ◌%◌, ◌*◌, ◌+◌, ◌<◌, ◌≤◌, ◌⊎◌, ◌-◌, Bool, true, false, cond, ◌&&◌, min, Option, length, get_or, take, drop, nat_abs, nat_eq, nat_le, nat_lt, List, [], ◌∷◌, All, refl, ap, sym, ◌∙◌, inl, inr, arith}
 use Rattle.std.specs.List.Sorted.{IsPartitionPoint}
 use Rattle.std.proofs.Math.Decide.{dec_lt}
@@ -18,9 +18,9 @@ use Rattle.path_tree.specs.declared.starts.TheConstants.{ROW}
 use Rattle.path_tree.specs.Inner.Candidates.{IsInBounds, is_candidate, is_held}
 use Rattle.path_tree.specs.Inner.Starts.{marked}
 use Rattle.path_tree.proofs.Even.{even_rows}
-use Rattle.path_tree.proofs.Marking.{and-false, marked-none, no_marking}
+use Rattle.path_tree.proofs.MarkedPaths.{and-false, marked-none, no_marking}
 
--- tests that agree on each line of a walk
+-- two tests that agree on each line of a walk count the same
 module _ (f g : GridEdge → Bool) (P : Point → Type 0) (agree : (p q : Point) → P p → P q → f (line_between p q) ≡ g (line_between p q)) where
   same_to : (end p : Point) (qs : List Point) → P end → P p → All P qs → odd_by f (lines_to end p qs) ≡ odd_by g (lines_to end p qs)
   same_to end p [] he hp hs = ap (λ b. differ b false) (agree p end hp he)
@@ -32,7 +32,7 @@ module _ (f g : GridEdge → Bool) (P : Point → Type 0) (agree : (p q : Point)
   same_of [] all = refl
   same_of (p ∷ ps) all = same_to p p ps (All-head P p ps all) (All-head P p ps all) (All-tail P p ps all)
 
--- no line passes
+-- if no line is crossed, the count is even
 none : (lines : List GridEdge) → odd_by (λ _. false) lines ≡ false
 none [] = refl
 none (line ∷ lines) = none lines
@@ -43,7 +43,7 @@ not_crossed : (t : Bool) (px py qx qy x y : ℕ) → (nat_le px x && nat_eq (min
 not_crossed true px py qx qy x y h = h
 not_crossed false px py qx qy x y h = refl
 
--- a line that is crossed exactly where it stands in the row
+-- a line that is crossed exactly if it lies in the row
 crossed_in_row : (t : Bool) (px py qx qy x y : ℕ) → (nat_le px x && nat_eq (min py qy) y) ≡ nat_eq (min py qy) y
     → is_crossed x y (cond t (upright px (min py qy)) (level (min px qx) py)) ≡ is_in_row y (cond t (upright px (min py qy)) (level (min px qx) py))
 crossed_in_row true px py qx qy x y h = h
@@ -62,7 +62,7 @@ right_out : (px py qy x y right : ℕ) → px ≤ right → right ≤ x → (nat
 right_out px py qy x y right within out = grind (arith, nat_tests)
 
 module _ (bounds : Bounds) (points : List Point) (within : All (IsInBounds bounds) points) (x y : ℕ) where
-  -- no line is crossed
+  -- if no line is crossed, the pixel isn't inside
   uncrossed : ((p q : Point) → IsInBounds bounds p → IsInBounds bounds q → is_crossed x y (line_between p q) ≡ false) → inside points x y ≡ false
   uncrossed agree =
       is_odd-count (is_crossed x y) (lines_of points)
@@ -89,7 +89,7 @@ module _ (bounds : Bounds) (points : List Point) (within : All (IsInBounds bound
       (right_out (nat_abs p.x) (nat_abs p.y) (nat_abs q.y) x y bounds.right hp.right out)) points within
       ∙ even_rows y points closed corners
 
--- no later one, whatever else
+-- a test that fails makes both fail
 not_later : (later is : Bool) → later ≡ false → (later && is) ≡ false
 not_later later is h = ap (λ b. b && is) h
 
@@ -108,14 +108,14 @@ left_of left x h = grind (arith, nat_tests)
 right_of : (right x : ℕ) → nat_lt x right ≡ false → right ≤ x
 right_of right x h = grind (arith, nat_tests)
 
--- which of three tests fails
+-- if three tests fail together, one of them fails
 one_fails : (a b c : Bool) → (a && (b && c)) ≡ false → (a ≡ false) ⊎ ((b ≡ false) ⊎ (c ≡ false))
 one_fails false b c h = inl refl
 one_fails true false c h = inr (inl refl)
 one_fails true true c h = inr (inr h)
 
 module _ (bounds : Bounds) (points : List Point) (within : All (IsInBounds bounds) points) (number : ℕ) (start : PathStart) where
-  -- a start that is no candidate
+  -- a start that isn't a candidate isn't held
   pub no_candidate : IsClosedWalk points → All (IsCornerOf 32767 32767) points → is_candidate number bounds start ≡ false → is_held number points start ≡ false
   no_candidate closed corners h = elim (one_fails (nat_lt number start.path) (nat_le bounds.left (start.place % ROW)) (nat_lt (start.place % ROW) bounds.right) h) [
     | inl earlier ↦ not_later (nat_lt number start.path) (inside points (start.place % ROW) (start.place / ROW)) earlier
@@ -127,17 +127,17 @@ module _ (bounds : Bounds) (points : List Point) (within : All (IsInBounds bound
     ]
   ]
 
-  -- a start in a row below all points
+  -- a start in a row below all points isn't held
   pub too_low : nat_lt start.place (ROW * bounds.bottom) ≡ true → is_held number points start ≡ false
   too_low h = not_inside (nat_lt number start.path) (inside points (start.place % ROW) (start.place / ROW))
       (outside_bottom bounds points within (start.place % ROW) (start.place / ROW) (low_row start.place bounds.bottom h))
 
-  -- a start in a row above all points
+  -- a start in a row above all points isn't held
   pub too_high : nat_lt start.place (ROW * (bounds.top + 1)) ≡ false → is_held number points start ≡ false
   too_high h = not_inside (nat_lt number start.path) (inside points (start.place % ROW) (start.place / ROW))
       (outside_top bounds points within (start.place % ROW) (start.place / ROW) (high_row start.place bounds.top h))
 
--- no start is held, where none between the rows is a candidate
+-- if no start between the rows is a candidate, none is held
 pub none_held : (bounds : Bounds) (points : List Point) (number first count : ℕ) (starts : List PathStart)
     → IsClosedWalk points → All (IsCornerOf 32767 32767) points → All (IsInBounds bounds) points
     → IsPartitionPoint (λ s. nat_lt s.place (ROW * bounds.bottom) ≡ true) (λ s. nat_lt s.place (ROW * bounds.bottom) ≡ false) starts first
@@ -162,7 +162,7 @@ none_held bounds points number first count starts closed corners within lows hig
       ]
 ]
 
--- starts of which none is marked
+-- starts that aren't held aren't marked
 pub marked-unheld : (i : ℕ) (test : ℕ → Bool) (starts : List PathStart) (holders : List (Option ℕ)) → All (λ s. (nat_lt i s.path && test s.place) ≡ false) starts
     → marked i test starts holders ≡ holders
 marked-unheld i test starts holders none = marked-none i test starts holders (λ k d h. no_marking i (get_or starts k d) holders (test (get_or starts k d).place) (none k d h))

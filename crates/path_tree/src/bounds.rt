@@ -1,4 +1,4 @@
-//! Between which columns and which rows a path lies.
+//! The bounds of a path.
 ghost use Rattle.std.specs.Prelude.{All};
 ghost use Rattle.path_decompose.specs.Bounds.{IsCornerOf};
 ghost use Rattle.path_tree.specs.Inner.Candidates.{IsInBounds, IsPageBounds};
@@ -6,7 +6,7 @@ ghost use Rattle.pt_core.specs.declared.point.Point.{Point};
 
 use pt_core::Point;
 
-/// The least and the greatest column and row of some points.
+/// The least and the greatest column and row of some corners.
 #[derive(Clone, Copy)]
 pub(crate) struct Bounds {
     pub left: u32,
@@ -16,7 +16,7 @@ pub(crate) struct Bounds {
 }
 
 impl Bounds {
-    /// The bounds of these points.
+    /// The bounds of some points.
     pub(crate) fn of(points: &[Point]) -> Bounds
         requires { All (IsCornerOf 32767 32767) points.now }
         ensures within { All (IsInBounds result) points.now }
@@ -34,7 +34,7 @@ impl Bounds {
         bounds
     }
 
-    /// The bounds with one more point.
+    /// These bounds, extended to one more point.
     fn with(self, point: Point) -> Bounds
         requires corner { IsCornerOf 32767 32767 point }
         requires rows { IsPageBounds self }

@@ -1,4 +1,4 @@
-//! Starts that may be inside a path.
+//! Starts that may lie inside a path.
 ghost use Rattle.std.specs.Prelude.{◌≡◌, ◌≤◌, ◌/◌, ◌%◌, false, All};
 ghost use Rattle.std.specs.List.Sorted.{IsNonDecreasingBy};
 ghost use Rattle.pt_core.specs.ClosedWalk.{IsClosedWalk};
@@ -10,13 +10,15 @@ use crate::marks::count_below;
 use crate::starts::{PathStart, ROW};
 use pt_core::Point;
 
-/// How many starts are looked at in the time that a point of a path takes when its lines are put in order.
+/// How many starts can be tested in the time that sorting a path's upright lines takes for each of its points.
 const STARTS_FOR_A_POINT: usize = 16;
 
-/// Whether a later path may start inside a path of these points. Where it answers false, none does.
+/// Whether a path after path `number` may start inside this path of `points`. If the result is false, none
+/// does.
 //
-// Most paths go round no hole. They are told by their bounds, and their lines needn't be put in order. Where so many
-// starts are in the path's rows that to look at each would take longer than that, it isn't asked.
+// Most paths have no holes. Their bounds show it, so that their lines needn't be sorted. If the path's rows
+// have more starts than can be tested in the time that sorting the lines takes, the result is true without a
+// test.
 pub(crate) fn may_hold(starts: &[PathStart], points: &[Point], number: u32) -> bool
     requires closed { IsClosedWalk points.now }
     requires corners { All (IsCornerOf 32767 32767) points.now }
@@ -36,7 +38,7 @@ pub(crate) fn may_hold(starts: &[PathStart], points: &[Point], number: u32) -> b
     has_candidate(&from_bottom[..count], bounds, number)
 }
 
-/// Whether one of these starts is that of a later path, in a column between the bounds.
+/// Whether any of the starts belongs to a later path and lies in a column within the bounds.
 fn has_candidate(starts: &[PathStart], bounds: Bounds, number: u32) -> bool
     ensures { result ≡ false → All (λ start. is_candidate number bounds start ≡ false) starts.now }
 {
@@ -48,7 +50,7 @@ fn has_candidate(starts: &[PathStart], bounds: Bounds, number: u32) -> bool
     false
 }
 
-/// Whether a start is that of a later path, in a column between the bounds.
+/// Whether a start belongs to a later path and lies in a column within the bounds.
 fn is_candidate(start: PathStart, bounds: Bounds, number: u32) -> bool
     ensures { result ≡ is_candidate number bounds start }
 {

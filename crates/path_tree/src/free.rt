@@ -1,4 +1,4 @@
-//! The starts whose paths have no holder yet.
+//! The starts of paths that have no holder yet.
 ghost use Rattle.std.specs.Prelude.{◌≡◌, ◌+◌, ◌<◌, ◌≤◌, ◌^◌, ℕ, Bool, true, IfOk, length};
 ghost use Rattle.std.specs.List.{range_with_len};
 ghost use Rattle.path_tree.specs.Inner.Free.{AreSkips, LeadPast};
@@ -6,7 +6,8 @@ ghost use Rattle.path_tree.specs.Inner.Free.{AreSkips, LeadPast};
 use pt_core::NoMemory;
 use std::alloc::Global;
 
-/// For each of `count` starts, and for the place behind them, where to look for one without a holder: at first there.
+/// The pointers of a union-find structure for `count` starts, and one for the end of the list. Each points to
+/// itself, because no path has a holder yet.
 pub(crate) fn all_free(alloc: Global, count: usize) -> Result<Vec<u32>, NoMemory>
     requires { count < 2 ^ 32 }
     ensures { IfOk result (λ skips. skips.items ≡ range_with_len 0 (count + 1)) }
@@ -18,10 +19,11 @@ pub(crate) fn all_free(alloc: Global, count: usize) -> Result<Vec<u32>, NoMemory
     Ok(skips)
 }
 
-/// The first place from `from` on that points to itself. All places before it lead past starts with holders.
+/// The first index at or after `from` that points to itself. All starts from `from` up to it belong to paths
+/// with holders.
 //
-// This is the search of a union-find structure. Each place that it comes by is made to point past the next one (path
-// halving), so that the next search is shorter.
+// This is the search of a union-find structure. Each pointer on the way is moved to the one after the next
+// (path halving), so that the next search is shorter.
 pub(crate) fn next_free(skips: &mut [u32], from: usize) -> usize
     requires skips { AreSkips skips.old }
     requires from { from < length skips.old }

@@ -2,7 +2,7 @@ use Rattle.std.proofs.Common.{◌-◌, ◌≤◌, drop, length}
 use Rattle.list_reader.proofs.EntryLines.{IsReading}
 use Rattle.list_reader.proofs.lines.read_line.Given as goal
 
--- the values so far are the first ones of the line, and the rest of the line starts at `here`
+-- the values read are the first ones of the line, and the rest of the line starts at `here`
 abbrev pub invariant-loop-entry : goal.invariant-loop-entry
 invariant-loop-entry g l = record {
   onwards : l.at ≤ l.here;

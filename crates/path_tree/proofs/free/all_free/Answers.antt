@@ -1,5 +1,5 @@
 use Rattle.std.proofs.Common.{◌++◌, ◌∷◌, [], ap, sym, ◌∙◌}
-use Rattle.path_tree.proofs.Leading.{range-more}
+use Rattle.path_tree.proofs.SkippedStarts.{range-more}
 use Rattle.path_tree.proofs.free.all_free.Goals as goal
 
 pub loop-at-preserved : goal.loop-at-preserved

@@ -1,8 +1,8 @@
--- A place that is come by points past the next one from then on, and what lies before that is held.
+-- A pointer on the way is moved past the next one, and what lies before that is held.
 use Rattle.std.proofs.Common.{◌<◌, ◌≤◌, ℕ, length, get_or, ◌∙◌, inl, inr, arith}
 use Rattle.std.proofs.lemmas.Bool.{cases_lt}
 use Rattle.std.proofs.lemmas.List.{length-set}
-use Rattle.path_tree.proofs.Leading.{past-set, past-twice, skips-set}
+use Rattle.path_tree.proofs.SkippedStarts.{past-set, past-twice, skips-set}
 use Rattle.path_tree.proofs.free.next_free.Goals as goal
 
 pub places-preserved : goal.places-preserved

@@ -2,7 +2,7 @@ use Rattle.std.proofs.Common.{◌≡◌, ℕ, ◌-◌, ◌<◌, ◌≤◌, Bool,
 use Rattle.path_tree.specs.Inner.Free.{AreSkips, LeadPast}
 use Rattle.path_tree.proofs.free.next_free.Given as goal
 
--- what lies before the place is held
+-- everything before the current index is held
 abbrev pub invariant-places : goal.invariant-places
 invariant-places l = record {
   are : AreSkips l.skips;
@@ -13,6 +13,6 @@ invariant-places l = record {
   passed : (held : ℕ → Bool) → LeadPast held l.fn.skips → (k : ℕ) → l.from ≤ k → k < l.at → held k ≡ true;
 }
 
--- the places that are left
+-- the number of indices that are left
 abbrev pub decreases-places : goal.decreases-places
 decreases-places l = length l.skips - l.at

@@ -1,7 +1,7 @@
--- One look tells whether no start stands between; otherwise the starts behind those passed are searched.
+-- If the next start isn't before the place, none is; otherwise the starts after those passed are searched.
 use Rattle.std.proofs.Common.{arith}
-use Rattle.path_tree.proofs.Leading.{parted-behind, parted-here}
-use Rattle.path_tree.proofs.Marking.{rest_all}
+use Rattle.path_tree.proofs.SkippedStarts.{parted-behind, parted-here}
+use Rattle.path_tree.proofs.MarkedPaths.{rest_all}
 use Rattle.path_tree.proofs.marks.count_onwards.Goals as goal
 use Rattle.path_tree.proofs.marks.count_onwards.Goals.{else-passed-starts-via-then-passed-starts+else-starts-passed, else-passed-starts-via-else-passed-starts}
 

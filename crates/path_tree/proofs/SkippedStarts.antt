@@ -1,4 +1,4 @@
--- Pointers past the starts whose paths have a holder.
+-- Pointers skip only starts that no longer need a holder, so marking a span skips no start that counts.
 use Rattle.std.proofs.Common.{◌≡◌, ℕ, zero, suc, ◌+◌, ◌-◌, ◌<◌, ◌≤◌, ◌^◌, Bool, true, false, ◌&&◌, nat_lt, Option, None, Some, List, [], ◌∷◌, ◌++◌, length, get_or, set, drop, All, ap, sym, subst, ◌∙◌, inl, inr, arith, get_or-set_other, get_or-set_same}
 use Rattle.std.specs.Prelude.{is_none, is_some}
 use Rattle.std.specs.List.{range_with_len}
@@ -11,9 +11,9 @@ use Rattle.pt_core.proofs.AppendedTexts.{any_default}
 use Rattle.path_tree.specs.declared.starts.PathStart.{PathStart}
 use Rattle.path_tree.specs.Inner.Free.{AreFree, AreSkips, LeadPast, StandBefore, has_holder, no_start}
 use Rattle.path_tree.specs.Inner.Starts.{is_in_span, marked, marked_one}
-use Rattle.path_tree.proofs.Marking.{all_below, and-false, below_low, from_high, marked-past, no_marking, within_both}
+use Rattle.path_tree.proofs.MarkedPaths.{all_below, and-false, below_low, from_high, marked-past, no_marking, within_both}
 
--- a place that points farther on
+-- a pointer that is moved further stays within the list
 pub skips-set : (skips : List ℕ) (at v : ℕ) → AreSkips skips → at < length skips → at ≤ v → v < length skips → AreSkips (set skips at v)
 skips-set skips at v are short from most = record {
   onwards = λ i h. elim (cases_eq i at) [
@@ -39,7 +39,7 @@ skips-set skips at v are short from most = record {
   ];
 }
 
--- a place that points past more that is held
+-- a pointer that is moved past more held starts still skips only held ones
 pub past-set : (held : ℕ → Bool) (skips : List ℕ) (at v : ℕ) → LeadPast held skips → at < length skips → ((k : ℕ) → at ≤ k → k < v → held k ≡ true)
     → LeadPast held (set skips at v)
 past-set held skips at v past short more i k h low high = elim (cases_eq i at) [
@@ -52,7 +52,7 @@ past-set held skips at v past short more i k h low high = elim (cases_eq i at) [
       past i k (omega arith) low (omega arith)
 ]
 
--- what lies before the place after the next one
+-- the starts before the index after the next one are held
 pub past-twice : (held : ℕ → Bool) (skips : List ℕ) (at : ℕ) → AreSkips skips → LeadPast held skips → at < length skips
     → (k : ℕ) → at ≤ k → k < get_or skips (get_or skips at 0) 0 → held k ≡ true
 past-twice held skips at are past short k low high = elim (cases_lt k (get_or skips at 0)) [
@@ -64,11 +64,11 @@ last : (a n j : ℕ) → a + n ≡ j → range_with_len a (suc n) ≡ range_with
 last a zero j e = ap (λ k. k ∷ []) (let same : a ≡ j = omega arith in same)
 last a (suc n) j e = ap (λ ks. a ∷ ks) (last (a + 1) n j (omega arith))
 
--- one more number
+-- the range with one more number
 pub range-more : (n : ℕ) → range_with_len 0 (n + 1) ≡ range_with_len 0 n ++ n ∷ []
 range-more n = let on : n + 1 ≡ suc n = omega arith in ap (range_with_len 0) on ∙ last 0 n n (omega arith)
 
--- at first each place points to itself
+-- at first each pointer points to itself
 module _ (starts : List PathStart) (holders : List (Option ℕ)) (skips : List ℕ) (few : length starts < 2 ^ 32) (order : IsNonDecreasingBy (λ s. s.place) starts) (known : All (λ s. s.path < length holders) starts) (all : skips ≡ range_with_len 0 (length starts + 1)) where
   len : length skips ≡ length starts + 1
   len = ap length all ∙ length-range_with_len 0 (length starts + 1)
@@ -95,7 +95,7 @@ still_some holders p j v within some = elim (cases_eq j p) [
   | inr other ↦ ap is_some (get_or-set_other holders p j (Some v) None other) ∙ some
 ]
 
--- the path of start number `at` gets a holder
+-- the path of start number `at` gets a holder, and its pointer is moved on
 pub free-one : (starts : List PathStart) (holders : List (Option ℕ)) (skips : List ℕ) (at v : ℕ) → AreFree starts holders skips → at < length starts
     → (get_or starts at no_start).path < length holders → AreFree starts (set holders (get_or starts at no_start).path (Some v)) (set skips at (at + 1))
 free-one starts holders skips at v free short within =
@@ -117,7 +117,7 @@ free-one starts holders skips at v free short within =
           ∙ ap is_some (get_or-set_same holders p (Some v) None within)));
     }
 
--- a search that leads on keeps what the places lead past
+-- a search that moves pointers on still skips only held starts
 pub free-found : (starts : List PathStart) (holders : List (Option ℕ)) (old new : List ℕ) → AreFree starts holders old → AreSkips new → length new ≡ length old
     → ((held : ℕ → Bool) → LeadPast held old → LeadPast held new) → AreFree starts holders new
 free-found starts holders old new free are len past = record {
@@ -133,7 +133,7 @@ held_marks : (later passes : Bool) (v : Option ℕ) → is_some v ≡ true → (
 held_marks later passes None some = absurd (false≢true some)
 held_marks later passes (Some j) some = ap (λ b. later && b) (and-false passes) ∙ and-false later
 
--- starts whose paths have holders get none
+-- paths that have a holder get no other
 pub past-held : (i : ℕ) (test : ℕ → Bool) (starts : List PathStart) (holders : List (Option ℕ)) (from to : ℕ) → from ≤ to → to ≤ length starts
     → ((k : ℕ) → from ≤ k → k < to → has_holder starts holders k ≡ true)
     → marked i test (drop from starts) holders ≡ marked i test (drop to starts) holders
@@ -145,7 +145,7 @@ past-held i test starts holders from to order within held =
     held_marks (nat_lt i s.path) (test s.place) (get_or holders s.path None) (held k low (omega arith))))
     ∙ ap (λ n. marked i test (drop n starts) holders) e
 
--- starts before the span get none
+-- starts before the span aren't marked
 pub before-span : (i low high first : ℕ) (starts : List PathStart) (holders : List (Option ℕ)) → first ≤ length starts
     → IsPartitionPoint (λ s. nat_lt s.place low ≡ true) (λ s. nat_lt s.place low ≡ false) starts first
     → marked i (is_in_span low high) starts holders ≡ marked i (is_in_span low high) (drop first starts) holders
@@ -162,7 +162,7 @@ before-span i low high first starts holders within parted =
 pub no_more : (i : ℕ) (test : ℕ → Bool) (starts : List PathStart) (holders : List (Option ℕ)) (n : ℕ) → length starts ≤ n → marked i test (drop n starts) holders ≡ holders
 no_more i test starts holders n most = ap (λ ss. marked i test ss holders) (drop_all n starts most)
 
--- starts behind the span get none
+-- starts after the span aren't marked
 pub behind-span : (i low high at : ℕ) (starts : List PathStart) (holders : List (Option ℕ)) → IsNonDecreasingBy (λ s. s.place) starts → at < length starts
     → high ≤ (get_or starts at no_start).place → marked i (is_in_span low high) (drop at starts) holders ≡ holders
 behind-span i low high at starts holders order within from =
@@ -176,7 +176,7 @@ behind-span i low high at starts holders order within from =
     ∙ ap (λ n. marked i (is_in_span low high) (drop n starts) holders) e
     ∙ no_more i (is_in_span low high) starts holders (length starts) (omega arith)
 
--- the start at a place of the span, and those behind it
+-- the start at an index of the span is marked, and then those after it
 pub in-span : (i low high at next first : ℕ) (starts : List PathStart) (old new : List (Option ℕ))
     → IsPartitionPoint (λ s. nat_lt s.place low ≡ true) (λ s. nat_lt s.place low ≡ false) starts first → first ≤ at → at < length starts
     → (get_or starts at no_start).place < high → new ≡ marked_one i true (get_or starts at no_start) old
@@ -192,7 +192,7 @@ in-span i low high at next first starts old new parted from short below made ord
     (sym (within_both low high s.place (parted.1 at no_start from short) below))
     ∙ sym (ap (λ ss. marked i (is_in_span low high) ss old) (drop-cons starts at no_start short))
 
--- with n starts passed, the search goes on behind them
+-- if the first n starts lie before a place, only the others have to be searched
 pub parted-behind : (starts : List PathStart) (n m place : ℕ) → StandBefore starts n place
     → IsPartitionPoint (λ s. nat_lt s.place place ≡ true) (λ s. nat_lt s.place place ≡ false) (drop n starts) m
     → IsPartitionPoint (λ s. nat_lt s.place place ≡ true) (λ s. nat_lt s.place place ≡ false) starts (n + m)
@@ -210,7 +210,7 @@ parted-behind starts n m place before parted = (
       subst (λ (s : PathStart). nat_lt s.place place ≡ false) (get_or-drop n starts (k - n) d ∙ ap (λ j. get_or starts j d) e) there,
 )
 
--- where the next one doesn't stand before the place, no more do
+-- if the next start doesn't lie before the place, no later one does
 pub parted-here : (starts : List PathStart) (n place : ℕ) → IsNonDecreasingBy (λ s. s.place) starts → StandBefore starts n place → (n < length starts → place ≤ (get_or starts n no_start).place)
     → IsPartitionPoint (λ s. nat_lt s.place place ≡ true) (λ s. nat_lt s.place place ≡ false) starts n
 parted-here starts n place order before next = (
@@ -221,10 +221,10 @@ parted-here starts n place order before next = (
       le-ltb _ _ (omega arith),
 )
 
--- what the search tells of the starts before the place
+-- the starts before the place, as the search counts them
 pub before-parted : (starts : List PathStart) (n place : ℕ) → n ≤ length starts → IsPartitionPoint (λ s. nat_lt s.place place ≡ true) (λ s. nat_lt s.place place ≡ false) starts n → StandBefore starts n place
 before-parted starts n place most parted = record { most = most; below = λ k low. ltb-true _ _ (parted.0 k no_start (omega arith) low) }
 
--- a later place
+-- starts before a place also lie before a later place
 pub before-later : (starts : List PathStart) (n place later : ℕ) → place ≤ later → StandBefore starts n place → StandBefore starts n later
 before-later starts n place later order before = record { most = before.most; below = λ k low. (let here = before.below k low in omega arith) }
