@@ -1,4 +1,4 @@
--- What inner contracts alone speak of: no promise rests on it.
+-- Definitions for inner contracts: no promise rests on them.
 pub mod Line
 pub mod LineBounds
 pub mod Quadratic

@@ -1,4 +1,4 @@
-//! What was found of other vertices.
+//! A cache of normals and of shifts.
 ghost use Rattle.std.specs.Prelude.{◌≡◌, ℕ, true};
 ghost use Rattle.vertex_adjust.specs.Inner.LineBounds.{IsSpread};
 ghost use Rattle.vertex_adjust.specs.Inner.Line.{IsNormal};
@@ -14,16 +14,16 @@ use pt_core::NoMemory;
 use std::alloc::Global;
 use std::marker::Model;
 
-/// The least shift of two lines.
+/// The best shift for two lines.
 #[derive(Clone, Copy)]
 pub(crate) struct LeastShift {
-    /// How far the shifts lie from both lines.
+    /// The sum of squared distances from both lines, as a function of the shift.
     pub quadratic: Quadratic,
     pub shift: Shift,
 }
 
 impl LeastShift {
-    /// The least shift of these two lines.
+    /// Finds the best shift for the two lines of this quadratic.
     fn of(quadratic: Quadratic) -> LeastShift
         requires quadratic { IsQuadratic quadratic }
         ensures least { IsLeastShift result }
@@ -36,18 +36,18 @@ impl LeastShift {
     }
 }
 
-/// How many normals are kept, and how many shifts.
+/// How many normals the cache holds, and how many shifts.
 const KEPT: usize = 4096;
 
-/// The normals and the shifts that were found last, of whichever path.
+/// A cache of the normals and the shifts that were computed last, for any path.
 //
-// The same short segments come again and again, and often two in a row: of a page of text nine normals in ten are
-// kept already, and six shifts in ten. So most vertices take no root, no division by a length and no search.
+// Equal short segments occur again and again, and often two in a row. On a page of text nine of ten normals and
+// six of ten shifts are in the cache. So most vertices need no root, no division by a length and no search.
 #[derive(Drop)]
 pub struct VertexMemo {
-    /// Each stands at the place of its spread. An empty list keeps nothing.
+    /// The entry of a normal is given by its spread. An empty list stores nothing.
     normals: Vec<Normal>,
-    /// Each stands at the place of its quadratic. An empty list keeps nothing.
+    /// The entry of a shift is given by its quadratic. An empty list stores nothing.
     shifts: Vec<LeastShift>,
 }
 
@@ -64,14 +64,14 @@ impl Model for VertexMemo {
 }
 
 impl VertexMemo {
-    /// Nothing was found yet. It takes 352 KiB.
+    /// An empty cache. It takes 352 KiB.
     pub fn new(alloc: Global) -> Result<VertexMemo, NoMemory> {
         let normals = vec![in alloc; no_normal(); KEPT]?;
         let shifts = vec![in alloc; no_shift(); KEPT]?;
         Ok(VertexMemo { normals, shifts })
     }
 
-    /// It keeps nothing, as serves where few vertices are looked for.
+    /// A cache that stores nothing, for callers that need few vertices.
     pub fn none(alloc: Global) -> VertexMemo {
         VertexMemo {
             normals: Vec::new(alloc),
@@ -79,7 +79,7 @@ impl VertexMemo {
         }
     }
 
-    /// The normal of the line of points that spread so.
+    /// The normal of the line of points with this spread.
     pub(crate) fn normal(&mut self, spread: Covariance) -> Normal
         requires { IsSpread spread }
         ensures normal { IsNormal result }
@@ -98,7 +98,7 @@ impl VertexMemo {
         normal
     }
 
-    /// The least of all candidates.
+    /// The best shift of all candidates for this quadratic.
     pub(crate) fn shift(&mut self, quadratic: Quadratic) -> Shift
         requires quadratic { IsQuadratic quadratic }
         ensures candidate { IsCandidate result }
@@ -129,7 +129,7 @@ fn no_normal() -> Normal
     })
 }
 
-/// The least shift of two lines without normals.
+/// The best shift for two lines without normals.
 fn no_shift() -> LeastShift
     ensures { IsLeastShift result }
 {
@@ -142,14 +142,14 @@ fn no_shift() -> LeastShift
     })
 }
 
-/// Whether two spreads are one.
+/// Whether two spreads are equal.
 fn is_one_spread(spread: Covariance, other: Covariance) -> bool
     ensures { result ≡ true → spread ≡ other }
 {
     spread.xx == other.xx && spread.xy == other.xy && spread.yy == other.yy
 }
 
-/// Whether two quadratics are one.
+/// Whether two quadratics are equal.
 fn is_one_quadratic(quadratic: Quadratic, other: Quadratic) -> bool
     ensures { result ≡ true → quadratic ≡ other }
 {
@@ -160,9 +160,9 @@ fn is_one_quadratic(quadratic: Quadratic, other: Quadratic) -> bool
         && quadratic.y == other.y
 }
 
-/// The place of a spread among the normals.
+/// The entry of a spread among the normals.
 //
-// Any place does; products with long odd numbers keep those apart that differ little.
+// Any entry would do. Products with long odd numbers give spreads that differ little different entries.
 fn place_of_spread(spread: Covariance) -> usize {
     let mixed = mixed(spread.xx, 0x9e37_79b9_7f4a_7c15)
         .wrapping_add(mixed(spread.xy, 0xc2b2_ae3d_27d4_eb4f))
@@ -170,7 +170,7 @@ fn place_of_spread(spread: Covariance) -> usize {
     (mixed >> 52) as usize
 }
 
-/// The place of a quadratic among the shifts.
+/// The entry of a quadratic among the shifts.
 fn place_of_quadratic(quadratic: Quadratic) -> usize {
     let mixed = mixed(quadratic.xx, 0x9e37_79b9_7f4a_7c15)
         .wrapping_add(mixed(quadratic.xy, 0xc2b2_ae3d_27d4_eb4f))
@@ -180,7 +180,7 @@ fn place_of_quadratic(quadratic: Quadratic) -> usize {
     (mixed >> 52) as usize
 }
 
-/// A number's product with another one, as far as it fits.
+/// The product of two numbers, modulo 2^64.
 fn mixed(number: i64, by: u64) -> u64 {
     number.cast_unsigned().wrapping_mul(by)
 }

@@ -4,7 +4,7 @@ use Rattle.vertex_adjust.specs.declared.spread.Covariance.{Covariance}
 use Rattle.vertex_adjust.specs.declared.normal.Normal.{Normal}
 use Rattle.vertex_adjust.specs.Line.{IsEnlarged, direction_of, length_of, ratio_of}
 
--- the normal of the line of points that spread so
+-- the normal of the line of points with this spread
 pub record IsNormal (normal : Normal) : Type 0 where
   pub larger : Covariance
   pub enlarged : IsEnlarged normal.spread larger

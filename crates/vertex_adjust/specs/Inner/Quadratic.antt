@@ -1,4 +1,5 @@
--- The sum of the squared distances as a function of the shift, a paraboloid (compare Selinger, "Potrace", 2003, 2.3.1).
+-- The sum of the squared distances as a function of the shift, a paraboloid (compare Selinger, "Potrace", 2003,
+-- section 2.3.1).
 use Rattle.std.specs.Prelude.{◌≡◌, ◌≢◌, ℕ, ◌+◌, ◌*◌, ◌<◌, ◌≤◌, ◌^◌, ℤ, pos, ◌+ℤ◌, ◌-ℤ◌, ◌*ℤ◌, ◌<ℤ◌, ◌≤ℤ◌, ◌⊎◌, unsigned_abs}
 use Rattle.vertex_adjust.specs.Vertex.{IsCandidate, IsBefore, IsLeast}
 use Rattle.vertex_adjust.specs.declared.shift.Shift.{Shift}
@@ -7,7 +8,7 @@ use Rattle.vertex_adjust.specs.declared.quadratic.Minimum.{Minimum}
 use Rattle.vertex_adjust.specs.declared.search.Trial.{Trial}
 use Rattle.vertex_adjust.specs.declared.memo.LeastShift.{LeastShift}
 
--- how much greater the sum of the squared distances is at a shift than for no shift, in units of 32
+-- how much greater the sum of the squared distances is after a shift than without one, in units of 32
 abbrev pub growth_of : Quadratic → ℤ → ℤ → ℤ
 growth_of b right up =
     pos 8 *ℤ ((b.xx *ℤ (right *ℤ right) +ℤ pos 2 *ℤ (b.xy *ℤ (right *ℤ up))) +ℤ b.yy *ℤ (up *ℤ up)) +ℤ (b.x *ℤ right +ℤ b.y *ℤ up)
@@ -32,17 +33,17 @@ pub record IsQuadratic (b : Quadratic) : Type 0 where
   pub x : b.x ≡ u *ℤ d +ℤ u' *ℤ d'
   pub y : b.y ≡ w *ℤ d +ℤ w' *ℤ d'
 
--- the error is 32 times the excess, and a number that all shifts share
+-- each shift's error is 32 times its excess plus a number that is the same for all shifts
 pub record IsErrorOver (error : Shift → ℕ) (b : Quadratic) : Type 0 where
   pub rest : ℤ
   pub is : (right up : ℤ) → pos (error (record { right = right; up = up })) ≡ rest +ℤ pos 32 *ℤ growth_of b right up
 
--- its shift is the least of all candidates, by each error over its quadratic
+-- the shift is the best of all candidates, for each error that belongs to the quadratic
 pub record IsLeastShift (found : LeastShift) : Type 0 where
   pub candidate : IsCandidate found.shift
   pub least : (error : Shift → ℕ) → IsErrorOver error found.quadratic → IsLeast error found.shift
 
--- the second number lies between the others
+-- the second number lies between the first and the third
 abbrev pub LiesBetween : ℤ → ℤ → ℤ → Type 0
 LiesBetween a b c = ((a <ℤ b) × (b <ℤ c)) ⊎ ((c <ℤ b) × (b <ℤ a))
 
@@ -55,13 +56,13 @@ pub record IsMinimum (b : Quadratic) (right : ℤ) (minimum : Minimum) : Type 0 
       → (minimum.excess <ℤ growth_of b right up)
       ⊎ ((minimum.excess ≡ growth_of b right up) × (unsigned_abs minimum.up * unsigned_abs minimum.up < unsigned_abs up * unsigned_abs up))
   pub bound_most : minimum.bound ≤ℤ (pos 4 *ℤ minimum.excess)
-  -- where a shift on one side of the column is lower than a quarter of `bound`, all shifts on the other side
-  -- are higher than that shift
+  -- if a shift on one side of the column is lower than a quarter of `bound`, each shift on the
+  -- other side is higher than that shift
   pub beyond : (near far : Shift) → IsCandidate near → IsCandidate far → LiesBetween near.right right far.right
       → (pos 4 *ℤ growth_of b near.right near.up) <ℤ minimum.bound
       → growth_of b near.right near.up <ℤ growth_of b far.right far.up
 
--- a shift of a column from `first` to `last` with its excess, and no candidate in these columns comes before it
+-- a shift in the columns from `first` to `last` with its excess, and no candidate in these columns comes before it
 pub record IsBestBetween (b : Quadratic) (first last : ℤ) (best : Trial) : Type 0 where
   pub candidate : IsCandidate best.shift
   pub excess : best.excess ≡ growth_of b best.shift.right best.shift.up
@@ -71,25 +72,25 @@ pub record IsBestBetween (b : Quadratic) (first last : ℤ) (best : Trial) : Typ
   pub none_before : (error : Shift → ℕ) → IsErrorOver error b
       → (other : Shift) → IsCandidate other → first ≤ℤ other.right → other.right ≤ℤ last → ¬ IsBefore error other best.shift
 
--- n is a number of steps, up to 32, of which it takes 16 * yy each; it is nearest to the size, and a half is
--- rounded down
+-- n is the number of steps, at most 32, that is nearest to the size, if a step is 16 * yy; a half
+-- is rounded down
 pub record IsRounded (yy size n : ℕ) : Type 0 where
   pub few : n ≤ 32
   pub reaches : 16 * (yy * n) < size + 8 * yy
   pub falls_short : size ≤ 16 * (yy * n) + 8 * yy
 
--- where the parabola of a column is lowest, in units of which 16 * yy make a step
+-- the position of a column's minimum, if a step is 16 * yy
 abbrev pub pull_of : Quadratic → ℤ → ℤ
 pull_of b right = pos 0 -ℤ (pos 16 *ℤ (b.xy *ℤ right) +ℤ b.y)
 
--- the same, brought into the column
+-- the position of a column's minimum, moved into the column
 pub data IsAim (b : Quadratic) (right aim : ℤ) : Type 0 where
   inside : aim ≡ pull_of b right → unsigned_abs aim ≤ 512 * unsigned_abs b.yy → IsAim b right aim
   above : aim ≡ pos 512 *ℤ b.yy → aim <ℤ pull_of b right → IsAim b right aim
   below : aim ≡ pos 0 -ℤ pos 512 *ℤ b.yy → pull_of b right <ℤ aim → IsAim b right aim
 
--- a whole number of steps, up to 32, that is nearest to `aim`, of which 16 * yy make a step; of two the one
--- that is nearer to 0
+-- the number of steps, at most 32, that is nearest to `aim`, if a step is 16 * yy; of two it is the
+-- one nearer to 0
 pub record IsNearest (yy aim up : ℤ) : Type 0 where
   pub steps : unsigned_abs up ≤ 32
   pub near : unsigned_abs (pos 16 *ℤ (yy *ℤ up) -ℤ aim) ≤ 8 * unsigned_abs yy
