@@ -1,4 +1,4 @@
--- How many bytes a page takes, and what it claims behind them.
+-- The bytes that a page takes, and the bytes that it claims after them, show the next page's beginning.
 use Rattle.std.proofs.Common.{◌≡◌, refl, ℕ, ◌+◌, ◌-◌, ◌≤◌, ◌<◌, Bool, true, false, List, [], ◌∷◌, ◌++◌, length, drop, arith, ap, sym, ◌∙◌, Option, Some, None, Result, Ok, Err}
 use Rattle.std.specs.Prelude.{nat_lt}
 use Rattle.std.proofs.lemmas.List.{length-append, length-drop, drop_all, drop-append-le}
@@ -23,15 +23,15 @@ use Rattle.bitmap_input.specs.Reading.Cause.{Says, Device, Memory}
 use Rattle.bitmap_input.specs.Inner.Skip.{passed_over}
 use Rattle.bitmap_input.specs.Inner.Behind.{counted, counted_body, counted_page, IsRead, claiming_none}
 use Rattle.bitmap_input.proofs.Bytes.{run_length-le, run_length-append}
-use Rattle.bitmap_input.proofs.Keeping.{LeavesEnd}
+use Rattle.bitmap_input.proofs.LastBytes.{LeavesEnd}
 use Rattle.bitmap_input.proofs.FrontKeeps.{keeps_body}
 use Rattle.bitmap_input.proofs.BmpLengths.{Cuts, cuts_bind, cuts_take}
-use Rattle.bitmap_input.proofs.Appending.{after-false}
-use Rattle.bitmap_input.proofs.Needing.{needs_as}
+use Rattle.bitmap_input.proofs.AddedBytes.{after-false}
+use Rattle.bitmap_input.proofs.NeededBytes.{needs_as}
 
 -- Pages of bits and of samples claim no bytes.
 
--- the page claims no bytes behind those that it takes
+-- the page claims no bytes after those that it takes
 abbrev pub ClaimsNone : Raw → List ℕ → Type 0
 ClaimsNone raw rest = raw.least_length ≡ 0
 
@@ -82,7 +82,7 @@ needed_counted : (start : List ℕ) {more : List ℕ} (m : Magic) → AreNeeded 
 needed_counted start m n =
     needs_as (λ bytes. counted_body m (start ++ bytes)) (λ bytes still. is_by_end-counted (start ++ bytes) (body m (start ++ bytes)) ∙ still) n
 
--- such a page, with how many bytes it takes
+-- a page that claims no bytes, with the number of bytes that it takes
 pub reads_unclaimed : {old new : Buffered} {files now : Option Files} {result : Result Pixels Stop} (level : ℕ) (invert : Bool) (m : Magic) →
     ((bytes : List ℕ) → Cuts ClaimsNone (body m bytes)) → Reads (IsShown level invert) (body m) old files result new now →
     Reads (IsRead level invert) (counted_body m) old files (claiming_none result) new now
@@ -129,7 +129,7 @@ stops_forget c (Says ending) held (e, is, settled) = (e, ap forget is, settled)
 stops_forget c Device held (by_end, going_on) = (is_by_end-forget c ∙ by_end, going_on)
 stops_forget c Memory held stops = tt
 
--- So many bytes are taken.
+-- The number of bytes that a page takes.
 
 cuts_spaces : (t : Bool) (bytes : List ℕ) → nat_lt longest (run_length is_space bytes) ≡ t →
     Cuts (λ _ rest. length bytes ≡ run_length is_space bytes + length rest) (run_of (run_length is_space bytes) bytes)
@@ -164,7 +164,7 @@ cuts_counted bytes (Takes e a rest) keeps d p left h =
     let all : length bytes ≡ length front + length rest = ap length is ∙ length-append front rest in
     cuts_take (λ p rest. length bytes ≡ p.1 + length rest) e (a, length bytes - length rest) rest (omega (arith, all)) d p left h
 
--- the bytes are the whitespace, the magic, what the page takes behind it, and what it leaves
+-- the bytes are the whitespace, the magic number, what the page takes after it, and what is left
 pub page_length : (later : Bool) (bytes : List ℕ) →
     Cuts (λ p rest. length bytes ≡ run_length is_space bytes + (2 + (p.1 + length rest))) (counted_page later bytes)
 page_length later bytes =
@@ -174,12 +174,12 @@ page_length later bytes =
     (λ _ mid is. cuts_bind (λ _ rest. length mid ≡ 2 + length rest) Q (magic later mid) (λ m rest. counted_body m rest) (cuts_magic later mid)
     (λ m mid2 is2 e p rest h. let is3 = cuts_counted mid2 (body m mid2) (keeps_body m mid2) e p rest h in omega (arith, is, is2, is3)))
 
--- the next page begins behind what this one takes, and what it claims behind that
+-- the next page begins after what this page takes, and after what it claims beyond that
 pub begins_behind : (later : Bool) (bytes : List ℕ) (e : Bool) (raw : Raw) (n : ℕ) (rest : List ℕ) → counted_page later bytes ≡ Takes e (raw, n) rest →
     next_begins bytes raw (length bytes - length rest) ≡ (length bytes - length rest) + (raw.least_length - (2 + n))
 begins_behind later bytes e raw n rest h = let all = page_length later bytes e (raw, n) rest h in omega (arith, all)
 
--- the front is a page: it takes no more bytes than there are, and whitespace isn't all of them
+-- if there is a page, it takes at most all bytes, and not all of them are whitespace
 front_at : (later : Bool) (bytes : List ℕ) (c : Cut (Raw × ℕ)) (raw : Raw) (used : ℕ) → counted_page later bytes ≡ c → front later bytes ≡ Page raw used →
     (used ≤ length bytes) × (run_length is_space bytes < length bytes)
 front_at later bytes (Stops e ending) raw used is h =
@@ -199,7 +199,7 @@ not_empty : (xs : List ℕ) → 0 < length xs → is_empty xs ≡ false
 not_empty [] some = absurd (omega arith)
 not_empty (x ∷ xs) some = refl
 
--- where bytes are added the next page begins at the same place
+-- the next page begins at the same index when bytes are added
 pub begins_with_more : (bytes more : List ℕ) (raw : Raw) (used : ℕ) → run_length is_space bytes < length bytes →
     next_begins (bytes ++ more) raw used ≡ next_begins bytes raw used
 begins_with_more bytes more raw used some =
@@ -208,7 +208,7 @@ begins_with_more bytes more raw used some =
     let same : run_length is_space (bytes ++ more) ≡ run_length is_space bytes = run_length-append is_space bytes more left in
     rw same refl
 
--- A page behind bytes that are passed over.
+-- A page after skipped bytes.
 
 pub page_of_nothing : (later : Bool) → is_by_end (page_at later []) ≡ true
 page_of_nothing true = refl
@@ -237,7 +237,7 @@ ahead_at true n later bytes more test open_end =
 ahead_at false n later bytes more test open_end =
     let within : n ≤ length bytes = ltb-false (length bytes) n test in drop-append-le n bytes more within
 
--- where the page isn't by the end, the bytes that are passed over are there
+-- if bytes added couldn't change the page, all bytes to be skipped are there
 pub ahead_with_more : (n : ℕ) (later : Bool) (bytes more : List ℕ) → is_by_end (page_at later (drop n bytes)) ≡ false →
     drop n (bytes ++ more) ≡ drop n bytes ++ more
 ahead_with_more n later bytes more open_end = ahead_at (nat_lt (length bytes) n) n later bytes more refl open_end

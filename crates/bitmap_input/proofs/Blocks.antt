@@ -1,4 +1,4 @@
--- A block that is read piece by piece.
+-- Reading a block piece by piece gives the block.
 use Rattle.std.proofs.Common.{subst, ◌≡◌, refl, ℕ, ◌+◌, ◌-◌, ◌≤◌, ◌<◌, true, false, List, [], ◌++◌, length, take, drop, arith, ap, sym, ◌∙◌, Option, Result, Ok, Err, append_assoc, append-nil}
 use Rattle.std.specs.Prelude.{nat_lt}
 use Rattle.std.proofs.lemmas.List.{length-append, length-take, length-take-le, take-append-drop, take-take, take_all}
@@ -18,29 +18,29 @@ use Rattle.bitmap_input.specs.PageParts.{block}
 use Rattle.bitmap_input.specs.Reading.{Buffered, Moves, AreNeeded}
 use Rattle.bitmap_input.specs.Inner.Reading.{Reads}
 use Rattle.bitmap_input.specs.Inner.Buffer.{ReadsOn}
-use Rattle.bitmap_input.proofs.Needing.{needs_none, needs_look}
-use Rattle.bitmap_input.proofs.Telling.{not_true, stand, move_on}
-use Rattle.bitmap_input.proofs.Running.{two_splits}
+use Rattle.bitmap_input.proofs.NeededBytes.{needs_none, needs_look}
+use Rattle.bitmap_input.proofs.ComposedSteps.{not_true, stand, move_on}
+use Rattle.bitmap_input.proofs.ByteRuns.{two_splits}
 
--- the first bytes of a block of n bytes were read, `done` of them
+-- the first `done` bytes of a block of n bytes have been read
 pub record IsBlockSoFar (n : ℕ) (old : Buffered) (before : Option Files) (done : ℕ) (row : List ℕ) (held : Buffered) (files : Option Files) : Type 0 where
   pub more : List ℕ
   pub moves : Moves old.ended before held.ended files more
   pub needed : AreNeeded (λ bytes. block n (old.bytes ++ bytes)) more
   pub split : old.bytes ++ more ≡ take done row ++ held.bytes
 
--- a block that isn't there
+-- there are fewer bytes than the block has
 no_block : (n : ℕ) (bytes : List ℕ) → length bytes < n → block n bytes ≡ Stops true (Refused Truncated)
 no_block n bytes less = let test : nat_lt (length bytes) n ≡ true = lt-ltb (length bytes) n less in rw test refl
 
--- a block that is there
+-- the block is there
 the_block : (row rest : List ℕ) (n : ℕ) → length row ≡ n → block n (row ++ rest) ≡ Takes false row rest
 the_block row rest n len =
     let within : n ≤ length (row ++ rest) = omega (arith, length-append row rest) in
     let test : nat_lt (length (row ++ rest)) n ≡ false = le-ltb (length (row ++ rest)) n within in
     rw (test, ← len, take-append_seam, drop-append_seam) refl
 
--- a block of another length that is the same
+-- a block of an equal length
 pub block_as : {X : Type 0} {is : X → List ℕ → Type 0} {old new : Buffered} {files now : Option Files} {result : Result X Stop} {m n : ℕ} →
     Reads is (block m) old files result new now → m ≡ n → Reads is (block n) old files result new now
 block_as {is = is} {old = old} {new = new} {files = files} {now = now} {result = result} r same = subst (λ k. Reads is (block k) old files result new now) same r
@@ -54,24 +54,24 @@ block_begins n old files row = record {
 }
 
 module _ {old held : Buffered} {before files : Option Files} {n done : ℕ} {row : List ℕ} (s : IsBlockSoFar n old before done row held files) (less : done < n) where
-  -- where no byte is left, the block isn't there
+  -- if no byte is left, more bytes could complete the block
   pub block_is_open : held.bytes ≡ [] → is_by_end (block n (old.bytes ++ s.more)) ≡ true
   block_is_open none =
       let whole : old.bytes ++ s.more ≡ take done row = s.split ∙ ap (λ xs. take done row ++ xs) none ∙ append-nil (take done row) in
       rw whole (ap is_by_end (no_block n (take done row) (rw length-take (omega arith))))
 
-  -- the next look reads where it has to
+  -- the next look reads only if it has to
   pub block_needs : {look : Buffered} {now : Option Files} → (on : ReadsOn held files look now) →
       AreNeeded (λ bytes. block n (old.bytes ++ bytes)) (s.more ++ on.more)
   block_needs on = needs_look (λ bytes. block n (old.bytes ++ bytes)) s.more s.needed on block_is_open
 
-  -- a read failed before all of it was read
+  -- a read failed before the whole block was read
   pub block_fails : {new : Buffered} {now : Option Files} {is : Unit {0} → List ℕ → Type 0} → new ≡ held → now ≡ files → held.bytes ≡ [] → held.ended ≡ false →
       Reads {X = Unit {0}} is (block n) old before (Err (stop.Fault fault.ReadFault)) new now
   block_fails same same_files none going_on =
       rw (same, same_files) record { more = s.more; moves = s.moves; needed = s.needed; gives = (block_is_open none, going_on) }
 
--- a read gave nothing before all of it was read
+-- a read returned nothing before the whole block was read
 pub block_is_short : {old held new : Buffered} {before files now : Option Files} (n done : ℕ) (row now_row : List ℕ) →
     IsBlockSoFar n old before done row held files → length row ≡ n → done < n → ReadsOn held files new now →
     new.bytes ≡ [] → new.ended ≡ true →
@@ -86,7 +86,7 @@ block_is_short {old} {held} {new} n done row now_row s len less on none ended =
       gives = (true, rw whole (no_block n (take done row) (rw length-take (omega arith))), λ _. ended);
     }
 
--- all of it was read
+-- the whole block was read
 pub block_ends : {old held : Buffered} {before files : Option Files} {n done : ℕ} {row : List ℕ} → IsBlockSoFar n old before done row held files → length row ≡ n → n ≤ done →
     Reads (λ _ bytes. bytes ≡ row) (block n) old before (Ok (tt {0})) held files
 block_ends {held = held} {n = n} {done = done} {row = row} s len all =
@@ -98,7 +98,7 @@ block_ends {held = held} {n = n} {done = done} {row = row} s len all =
       gives = (false, row, refl, rw (s.split, whole) (the_block row held.bytes n len), λ h. absurd (not_true h));
     }
 
--- the row that was filled up to a place, and k bytes further
+-- the row that was filled up to an index, and k bytes further
 pub row_front : (done k : ℕ) (row sub : List ℕ) → done ≤ length row → k ≤ length sub →
     take (done + k) (put_mid done (length row - done) row sub) ≡ take done row ++ take k sub
 row_front done k row sub within fits =

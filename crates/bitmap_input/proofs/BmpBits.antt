@@ -1,4 +1,5 @@
--- A row of a BMP picture whose bits tell a black colour from a white one: the row as packed bytes.
+-- If each bit of a BMP picture's row selects a black or a white colour, the row is its packed bytes, inverted
+-- or not.
 use Rattle.std.proofs.Common.{◌≡◌, refl, ℕ, zero, suc, ◌+◌, ◌-◌, ◌*◌, ◌/◌, ◌%◌, ◌≤◌, ◌<◌, Bool, true, false, not, List, length, take, map, get_or, arith, ap, sym, ◌∙◌}
 use Rattle.std.specs.Prelude.{nat_eq}
 use Rattle.std.specs.List.{range_with_len}
@@ -11,7 +12,7 @@ use Rattle.bitmap_input.specs.Raw.Entry.{Color}
 use Rattle.bitmap_input.specs.BmpRaster.{bit_at}
 use Rattle.bitmap_input.specs.Inner.BmpHead.{shade_in}
 use Rattle.bitmap_input.specs.declared.bmp.fields.Depth.TheVariants as depth
-use Rattle.bitmap_input.proofs.Placing.{length-unpacked}
+use Rattle.bitmap_input.proofs.PaintedRows.{length-unpacked}
 use Rattle.bitmap_input.proofs.Rows.{get_or-unpacked}
 
 differ-false_last : (b : Bool) → differ b false ≡ b
@@ -22,7 +23,7 @@ differ-true_last : (b : Bool) → differ b true ≡ not b
 differ-true_last true = refl
 differ-true_last false = refl
 
--- the first two colours of a table, by a bit
+-- one of the first two colours of a table, selected by a bit
 one_of_two : (n : ℕ) (table : List Bool) (d : Bool) → n < 2 → get_or table 1 d ≡ not (get_or table 0 d) →
     differ (get_or table 0 d) (nat_eq n 1) ≡ get_or table n d
 one_of_two zero table d h apart = differ-false_last (get_or table 0 d)

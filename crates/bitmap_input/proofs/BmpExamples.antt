@@ -1,4 +1,4 @@
--- The definitions of BMP on small pictures.
+-- The definitions of BMP, checked on small pictures.
 use Rattle.std.proofs.Common.{◌≡◌, refl, ℕ, true, false, List, [], ◌∷◌, ◌++◌, take, drop}
 use Rattle.bitmap_input.specs.Cut.Kind.{BmpKind, Truncated, ZeroSide, BadOffset}
 use Rattle.bitmap_input.specs.Cut.FileEnd.{Refused}
@@ -22,7 +22,7 @@ two_high =
     0xfe ∷ 0xff ∷ 0xff ∷ 0xff ∷ 1 ∷ 0 ∷ 0x18 ∷ 0 ∷ 0 ∷ 0 ∷ 0 ∷ 0 ∷ 8 ∷ 0 ∷ 0 ∷ 0 ∷ 0 ∷ 0 ∷ 0 ∷ 0 ∷ 0 ∷ 0 ∷ 0 ∷ 0 ∷
     0 ∷ 0 ∷ 0 ∷ 0 ∷ 0 ∷ 0 ∷ 0 ∷ 0 ∷ 0 ∷ 0 ∷ 0 ∷ 0 ∷ 0xff ∷ 0xff ∷ 0xff ∷ 0 ∷ []
 
--- what it holds, where it says that it is so long
+-- the page that it holds, if it states this file size
 two_rows : ℕ → Raw
 two_rows size = record { width = 1; height = 2; rows = (Color 0 0 0 ∷ []) ∷ (Color 255 255 255 ∷ []) ∷ []; least_length = size }
 
@@ -30,7 +30,7 @@ two_high_read : front false two_high ≡ Page (two_rows 62) 62
 unfolding two_high two_rows byte_at two_at four_at
 two_high_read = refl
 
--- the same picture, which says that it is two bytes longer, behind a blank and before another page
+-- the picture states two more bytes than it has, and comes after a blank and before another page
 two_longer : List ℕ
 unfolding two_high
 two_longer = 32 ∷ take 2 two_high ++ 64 ∷ drop 3 two_high ++ codes "xyP1 1 1 1"
@@ -39,7 +39,7 @@ claimed_bytes : FilePages false two_longer (two_rows 64 ∷ bits_page 1 1 ((true
 unfolding two_high two_longer two_rows byte_at two_at four_at
 claimed_bytes = Next {used = 63} refl (Next {used = 8} refl (Ended refl))
 
--- it says that it is longer than the file
+-- it states a file size greater than the file's
 far_longer : FilePages false (take 2 two_high ++ 255 ∷ drop 3 two_high) (two_rows 255 ∷ []) End
 unfolding two_high two_rows byte_at two_at four_at
 far_longer = Next {used = 62} refl (Ended refl)
@@ -48,19 +48,19 @@ one_byte_short : page_at false (take 61 two_high) ≡ Stops true (Refused Trunca
 unfolding two_high byte_at two_at four_at
 one_byte_short = refl
 
--- the header of eight bits, run-length coded
+-- a header of 8 bits with run-length coding
 run_length_coded : page_at false (take 28 two_high ++ 8 ∷ 0 ∷ 1 ∷ drop 31 (take 54 two_high)) ≡ Stops false (Refused BmpKind)
 unfolding two_high byte_at two_at four_at
 run_length_coded = refl
 
--- the first pixel is the most significant bit, or the high half
+-- the first pixel is the most significant bit, or the upper half
 bits_from_the_left : (bit_at (0x40 ∷ []) 0 ≡ 0) × (bit_at (0x40 ∷ []) 1 ≡ 1)
 bits_from_the_left = (refl, refl)
 
 halves_from_the_left : (half_at (0x12 ∷ 0x34 ∷ []) 1 ≡ 2) × (half_at (0x12 ∷ 0x34 ∷ []) 2 ≡ 3)
 halves_from_the_left = (refl, refl)
 
--- a width of 0 comes before an offset of 0, and both before what is missing behind them
+-- a width of 0 is reported before an offset of 0, and both before missing bytes
 zero_before_offset : page_at false (take 10 two_high ++ 0 ∷ 0 ∷ 0 ∷ 0 ∷ take 4 (drop 14 two_high) ++ 0 ∷ drop 19 (take 54 two_high)) ≡ Stops false (Refused ZeroSide)
 unfolding two_high byte_at two_at four_at
 zero_before_offset = refl
@@ -69,6 +69,6 @@ early_offset : page_at false (take 10 two_high ++ 53 ∷ drop 11 (take 54 two_hi
 unfolding two_high byte_at two_at four_at
 early_offset = refl
 
--- past a palette there is black
+-- colours beyond the palette are black
 past_the_palette : (palette_color 1 4 (9 ∷ 8 ∷ 7 ∷ 0 ∷ []) 0 ≡ Color 7 8 9) × (palette_color 1 4 (9 ∷ 8 ∷ 7 ∷ 0 ∷ []) 1 ≡ Color 0 0 0)
 past_the_palette = (refl, refl)

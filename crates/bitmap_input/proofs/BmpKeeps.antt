@@ -1,4 +1,4 @@
--- What a BMP picture leaves is the end of what it was given, and begins behind its last row.
+-- What a BMP picture leaves are the last bytes of its list, and they begin after its last row.
 use Rattle.std.proofs.Common.{ℕ, ◌-◌, Bool, true, false, List, ◌++◌, map}
 use Rattle.std.specs.Prelude.{nat_le}
 use Rattle.std.specs.List.{range_with_len}
@@ -11,7 +11,7 @@ use Rattle.bitmap_input.specs.Sides.{checked}
 use Rattle.bitmap_input.specs.BmpHeader.{header_size, is_known_size, is_known_kind, mask_bytes, has_known_colors, width, height, pixel_offset, palette_bytes, palette_end, row_length, bits, palette_length, color_bytes}
 use Rattle.bitmap_input.specs.BmpRaster.{palette_color, pixel_in, bmp_row, picture, raster}
 use Rattle.bitmap_input.specs.Bmp.{passes, start, info, masks, placed, header, bmp}
-use Rattle.bitmap_input.proofs.Keeping.{LeavesEnd, all_rest, keeps_take, keeps_stop, keeps_bind, keeps_block, keeps_times, keeps_checked}
+use Rattle.bitmap_input.proofs.LastBytes.{LeavesEnd, all_rest, keeps_take, keeps_stop, keeps_bind, keeps_block, keeps_times, keeps_checked}
 
 keeps_passes : {A : Type 0} (kind : Kind) (t : Bool) (x : A) (bytes : List ℕ) → LeavesEnd bytes (passes kind t x bytes)
 keeps_passes kind true x bytes = keeps_take bytes false x bytes (all_rest bytes)

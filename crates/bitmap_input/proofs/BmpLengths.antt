@@ -1,4 +1,4 @@
--- How many bytes the parts of a BMP picture take.
+-- The number of bytes that each part of a BMP picture takes.
 use Rattle.std.proofs.Common.{◌≡◌, refl, ℕ, zero, suc, ◌+◌, ◌-◌, ◌*◌, ◌≤◌, ◌<◌, Bool, true, false, cond, ◌||◌, List, [], ◌∷◌, ◌++◌, length, map, take, drop, arith, ap, sym, ◌∙◌, subst}
 use Rattle.std.specs.Prelude.{nat_eq, nat_lt, nat_le}
 use Rattle.std.specs.List.{range_with_len}
@@ -19,10 +19,10 @@ use Rattle.bitmap_input.specs.Inner.BmpHeader.{rows_end}
 use Rattle.bitmap_input.specs.BmpRaster.{palette_color, pixel_in, bmp_row, picture, raster}
 use Rattle.bitmap_input.specs.Bmp.{passes, start, info, masks, placed, header, bmp}
 use Rattle.bitmap_input.specs.Inner.BmpHead.{HasInfo, IsHeaderStart, IsInfo, IsWholeHeader}
-use Rattle.bitmap_input.proofs.Showing.{after_takes}
+use Rattle.bitmap_input.proofs.RasterPages.{after_takes}
 use Rattle.pt_core.specs.declared.limits.TheConstants.{LONGEST_SIDE}
 
--- the value and the rest of the cut, where it takes a front, meet this
+-- if the cut takes bytes, its value and its rest meet P
 abbrev pub Cuts : {A : Type 0} → (A → List ℕ → Type 0) → Cut A → Type 0
 Cuts {A = A} P c = (e : Bool) (a : A) (rest : List ℕ) → c ≡ Takes e a rest → P a rest
 
@@ -58,7 +58,7 @@ block_taken false n bytes test e a rest h =
 pub cuts_block : (n : ℕ) (bytes : List ℕ) → Cuts (HasBlockLength n bytes) (block n bytes)
 cuts_block n bytes = block_taken (nat_lt (length bytes) n) n bytes refl
 
--- a part that takes k bytes, n times
+-- n times a part that takes k bytes
 pub cuts_times : {A : Type 0} (part : List ℕ → Cut A) (k : ℕ) → ((bytes : List ℕ) → Cuts (λ _ rest. length bytes ≡ k + length rest) (part bytes)) →
     (n : ℕ) (bytes : List ℕ) → Cuts (λ _ rest. length bytes ≡ n * k + length rest) (repeated part n bytes)
 cuts_times part k each zero bytes =
@@ -70,7 +70,7 @@ cuts_times part k each (suc n) bytes =
     (λ xs rest. Takes false (x ∷ xs) rest) (cuts_times part k each n mid)
     (λ xs rest more. cuts_take (λ _ rest. length bytes ≡ suc n * k + length rest) false (x ∷ xs) rest (omega arith)))
 
--- Numbers of a header stay where bytes are added behind it.
+-- The numbers of a header stay the same when bytes are added to it.
 
 byte_at-append : (head more : List ℕ) (place : ℕ) → place < length head + 2 → 2 ≤ place → byte_at (head ++ more) place ≡ byte_at head place
 unfolding byte_at
@@ -86,7 +86,7 @@ unfolding four_at
 four_at-append head more place within some =
     rw (two_at-append head more place (omega arith) some, two_at-append head more (place + 2) (omega arith) (omega arith)) refl
 
--- What is known of the header's bytes as they are read.
+-- What is known of the header's bytes while they are read.
 
 -- a known size is at least 12
 known_size : (n : ℕ) → is_known_size n ≡ true → 12 ≤ n
@@ -151,7 +151,7 @@ bits_same false head more test has =
     let field : two_at (head ++ more) 28 ≡ two_at head 28 = two_at-append head more 28 (omega arith) (omega arith) in
     rw (same, test) field
 
--- a header is of 40 bytes, and masks follow; or it has room for them
+-- a header of 40 bytes is followed by its masks, and a longer one contains them
 masked_size : (t : Bool) (head : List ℕ) → nat_eq (header_size head) 40 ≡ t → IsWholeHeader head → is_short head ≡ false → has_masks head ≡ true → 64 ≤ length head
 masked_size true head test is long masked =
     let size : header_size head ≡ 40 = eqb-true (header_size head) 40 test in
@@ -166,11 +166,11 @@ masked_at : (t : Bool) (head : List ℕ) → IsWholeHeader head → is_short hea
 masked_at true head is test masked = let plain : has_masks head ≡ false = rw test refl in absurd (both_ways (has_masks head) plain masked)
 masked_at false head is test masked = masked_size (nat_eq (header_size head) 40) head refl is test masked
 
--- the fields stay with the masks
+-- the fields stay the same when the masks are added
 pub bits_grown : (head more : List ℕ) → HasInfo head → bits (head ++ more) ≡ bits head
 bits_grown head more has = bits_same (is_short head) head more refl has
 
--- What a whole header has room for.
+-- The fields that a whole header contains.
 
 pub masks_within : (head : List ℕ) → IsWholeHeader head → has_masks head ≡ true → 64 ≤ length head
 masks_within head is masked = masked_at (is_short head) head is refl masked
@@ -213,7 +213,7 @@ cuts_checked w h bytes =
     (cuts_cond (λ _ rest. length rest ≡ length bytes) (nat_lt LONGEST_SIDE w || nat_lt LONGEST_SIDE h) (Stops false (Refused TooLarge)) (Takes false (w, h) bytes)
     (cuts_stop (λ _ rest. length rest ≡ length bytes) false (Refused TooLarge)) (cuts_take (λ _ rest. length rest ≡ length bytes) false (w, h) bytes refl))
 
--- the header is whole, and its pixels begin behind its palette
+-- the header is whole, and its pixels begin after its palette
 abbrev pub HasPlacedPixels : List ℕ → Type 0
 HasPlacedPixels head = IsWholeHeader head × (palette_end head ≤ pixel_offset head)
 
@@ -237,7 +237,7 @@ cuts_header bytes =
     let is4 = cuts_placed head3 rest3 is3.0 e head4 rest4 h in
     (is4.0, is.1 ∙ is2.1 ∙ is3.1 ∙ is4.1))))
 
--- The rows end where the header says.
+-- The rows end at the offset that the header gives.
 
 sum_of_parts : (n a b c r r2 r3 : ℕ) → n ≡ a + r → r ≡ b + r2 → r2 ≡ c + r3 → n ≡ a + b + c + r3
 sum_of_parts n a b c r r2 r3 h h2 h3 = omega arith
@@ -272,7 +272,7 @@ or_no true e = refl
 or_no false true = refl
 or_no false false = refl
 
--- so many bytes behind the magic: the end of the rows counts from the magic's first byte
+-- the number of bytes after the magic number; the end of the rows counts from the magic number's first byte
 taken_in_all : (n l r2 r3 size masks colors offset rows : ℕ) → l ≡ 12 + size + masks → 14 + size + masks + colors ≤ offset → n ≡ l + r2 →
     r2 ≡ colors + (offset - (14 + size + masks + colors)) + rows + r3 → n - r3 ≡ offset + rows - 2
 taken_in_all n l r2 r3 size masks colors offset rows len behind first second = omega arith
@@ -294,7 +294,7 @@ picture_counted bytes (Takes d head mid) cuts =
     taken_in_all (length bytes) (length head) (length mid) (length rest) (header_size head) (mask_bytes head) (palette_bytes head) (pixel_offset head) (height head * row_length head)
     is.0.0.reach is.0.1 is.1 taken.1)
 
--- the picture with the number of bytes that it takes behind its magic
+-- the picture with the number of bytes that it takes after its magic number
 pub bmp_counted : (bytes : List ℕ) →
     (header bytes >>= λ head rest. raster head rest >>= λ raw rest. Takes false (raw, rows_end head - 2) rest) ≡ counted bytes (bmp bytes)
 bmp_counted bytes = picture_counted bytes (header bytes) (cuts_header bytes)

@@ -1,4 +1,4 @@
--- The rows of a BMP picture, painted from the top down or from below, are the page that the picture shows.
+-- The rows of a BMP picture, written from the top or from the bottom, give the page that the picture shows.
 use Rattle.std.proofs.Common.{◌≡◌, refl, ℕ, zero, suc, ◌+◌, ◌-◌, ◌≤◌, ◌<◌, inl, inr, Bool, true, false, List, [], ◌∷◌, ◌++◌, ◌*◌, length, map, reverse, get_or, arith, ap, sym, ◌∙◌, subst, Option, Ok, Err}
 use Rattle.std.specs.Prelude.{nat_lt, if◌then◌else◌}
 use Rattle.std.proofs.Math.Path.{fun_ext}
@@ -24,13 +24,13 @@ use Rattle.bitmap_input.specs.Inner.BmpHead.{IsHeader, bits_in, row_place, row_b
 use Rattle.bitmap_input.specs.Inner.Raster.{with_row, with_placed}
 use Rattle.bitmap_input.specs.Reading.{Buffered}
 use Rattle.bitmap_input.specs.Inner.Reading.{Reads}
-use Rattle.bitmap_input.proofs.Placing.{with_pixels-other}
-use Rattle.bitmap_input.proofs.Showing.{row_at, reads_counted}
-use Rattle.bitmap_input.proofs.Telling.{reads_made, reads_stop, reads_on, reads_as}
+use Rattle.bitmap_input.proofs.PaintedRows.{with_pixels-other}
+use Rattle.bitmap_input.proofs.RasterPages.{row_at, reads_counted}
+use Rattle.bitmap_input.proofs.ComposedSteps.{reads_made, reads_stop, reads_on, reads_as}
 use Rattle.bitmap_input.proofs.BmpStays.{header_stays}
 use Rattle.bitmap_input.proofs.BmpLengths.{cuts_raster, bmp_counted}
 
--- where no row is placed nothing is painted
+-- a row in which nothing is placed stays the same
 placed_other : (place : ℕ → ℕ) (b : Image) (i u v : ℕ) (rows : List (List Bool)) → ((j : ℕ) → j < length rows → place (i + j) ≡ v → ⊥) →
     with_placed place b i rows u v ≡ b u v
 placed_other place b i u v [] other = refl
@@ -40,7 +40,7 @@ placed_other place b i u v (r ∷ rs) other =
     (λ j less at. other (suc j) (omega arith) (ap place (let n : i + suc j ≡ suc i + j = omega arith in n) ∙ at)) ∙
     with_pixels-other b (place i) 0 u v r (λ e _ _. here e)
 
--- a row, where each has a place of its own
+-- a row of the picture, if each has its own row of the page
 placed_at : (place : ℕ → ℕ) (b : Image) (i k u : ℕ) (rows : List (List Bool)) → k < length rows →
     ((j : ℕ) → j < length rows → place (i + j) ≡ place (i + k) → j ≡ k) → b u (place (i + k)) ≡ false →
     with_placed place b i rows u (place (i + k)) ≡ get_or (get_or rows k []) u false
@@ -74,7 +74,7 @@ module _ (level : ℕ) (invert : Bool) (b : Image) (u v : ℕ) (rows : List (Lis
   row_pixels : (k : ℕ) → get_or pixels k [] ≡ map (black level invert) (get_or rows k [])
   row_pixels k = get_or-map (map (black level invert)) rows k []
 
-  -- from the top down
+  -- rows from the top down
   falling_at : (h : ℕ) → length rows ≡ h → v < h →
       with_placed (row_place true h) b 0 pixels u v ≡ get_or (map (black level invert) (get_or rows (h - suc v) [])) u false
   falling_at h len within =
@@ -84,7 +84,7 @@ module _ (level : ℕ) (invert : Bool) (b : Image) (u v : ℕ) (rows : List (Lis
       subst (λ m. with_placed (row_place true h) b 0 pixels u m ≡ get_or (get_or pixels (h - suc v) []) u false) at row ∙
       ap (λ (r : List Bool). get_or r u false) (row_pixels (h - suc v))
 
-  -- from below
+  -- rows from the bottom up
   rising_at : (h : ℕ) → length rows ≡ h → v < h →
       with_placed (row_place false h) b 0 pixels u v ≡ get_or (map (black level invert) (get_or (reverse rows) (h - suc v) [])) u false
   rising_at h len within =
@@ -120,7 +120,7 @@ picture_at level invert h b u v rows maxval len = elim (cases_lt v h.sides.heigh
       rw test (outside_at level invert b u v rows maxval h.top_down h.sides.height len above ∙ maxval u v)
 ]
 
--- the page that was painted
+-- the page that was written
 shown_picture : (level : ℕ) (invert : Bool) (h : Header) (q : Pixels) (b : Image) (rows : List (List Entry)) → q ≡ page_of q.width q.height (image_of q) →
     q.width ≡ h.sides.width → q.height ≡ h.sides.height → IsWhite b → length rows ≡ h.sides.height →
     image_of q ≡ with_placed (row_place h.top_down h.sides.height) b 0 (map (map (black level invert)) rows) → q ≡ shown level invert (picture_by h rows)
@@ -142,7 +142,7 @@ module _ {mid new : Buffered} {fmid now : Option Files} (level : ℕ) (invert : 
       (λ rows counted. shown_picture level invert h q (image_of p) rows whole (sides.width ∙ wide) (sides.height ∙ high) maxval counted.1 counted.0)
       (reads_counted (color_row (row_bytes_by h) (bits_in h.depth) color h.sides.width) h.sides.height read)
 
-  -- a row could not be read
+  -- a row couldn't be read
   pub picture_stopped : (stop : Stop) →
       Reads {X = Unit {0}} (λ _ rows. image_of q ≡ with_placed (row_place h.top_down p.height) (image_of p) 0 (map (map (black level invert)) rows))
       (repeated (color_row (row_bytes_by h) (bits_in h.depth) color p.width) p.height) mid fmid (Err stop) new now →
@@ -151,14 +151,14 @@ module _ {mid new : Buffered} {fmid now : Option Files} (level : ℕ) (invert : 
   picture_stopped stop r =
       let read = rw (wide, high) at r in reads_stop {js = IsShown level invert} (λ rows rest. Takes false (picture_by h rows) rest) read
 
--- what follows a header is what the program reads by it
+-- what follows a header is what the program reads by its description of the header
 pub raster_is : (h : Header) (head : List ℕ) → IsHeader h head → (bytes : List ℕ) → raster head bytes ≡ raster_by h bytes
 raster_is h head is bytes =
     rw (is.before_pixels, is.palette_length, is.color_bytes, is.width, is.height, is.top_down, is.depth, is.file_size) refl
 
 -- The header, what follows it, and what the picture claims.
 
--- a step whose value meets what the part's values meet
+-- if all values of a part meet P, so does the value of a step
 reads_with : {A X : Type 0} {is : X → A → Type 0} {part : List ℕ → Cut A} {x : X} {old mid : Buffered} {files fmid : Option Files} (P : A → Type 0) →
     ((bytes : List ℕ) (e : Bool) (a : A) (rest : List ℕ) → part bytes ≡ Takes e a rest → P a) → Reads is part old files (Ok x) mid fmid →
     Reads (λ x a. is x a × P a) part old files (Ok x) mid fmid

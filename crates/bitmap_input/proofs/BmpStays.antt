@@ -1,4 +1,4 @@
--- A BMP picture's answer that isn't by the end of the bytes stays the same where bytes are added.
+-- A BMP picture that bytes added couldn't change stays the same when bytes are added.
 use Rattle.std.proofs.Common.{ℕ, ◌-◌, Bool, true, false, List, ◌++◌, map}
 use Rattle.std.specs.Prelude.{nat_le}
 use Rattle.std.specs.List.{range_with_len}
@@ -11,7 +11,7 @@ use Rattle.bitmap_input.specs.Sides.{checked}
 use Rattle.bitmap_input.specs.BmpHeader.{header_size, is_known_size, is_known_kind, mask_bytes, has_known_colors, width, height, pixel_offset, palette_bytes, palette_end, row_length, bits, palette_length, color_bytes}
 use Rattle.bitmap_input.specs.BmpRaster.{color_row, palette_color, pixel_in, bmp_row, picture, raster}
 use Rattle.bitmap_input.specs.Bmp.{passes, start, info, masks, placed, header, bmp}
-use Rattle.bitmap_input.proofs.Appending.{Stays, stays_bind, stop_stays, take_stays, block_stays, times_stay, checked_stays}
+use Rattle.bitmap_input.proofs.AddedBytes.{Stays, stays_bind, stop_stays, take_stays, block_stays, times_stay, checked_stays}
 
 pub passes_stays : {A : Type 0} (kind : Kind) (t : Bool) (x : A) → Stays (passes kind t x)
 passes_stays kind true x = take_stays false x

@@ -1,4 +1,4 @@
--- The rows behind a header, read into a page of its sides.
+-- Reading the rows after a header into a page with its sides gives the page that the raw page shows.
 use Rattle.std.proofs.Common.{◌≡◌, ℕ, List, map, sym, subst, Bool, false, Option, Result, Ok, Err}
 use Rattle.pt_core.specs.Files.{Files}
 use Rattle.bit_image.specs.Image.{IsWhite}
@@ -19,9 +19,9 @@ use Rattle.bitmap_input.specs.declared.raster.Raster.TheVariants.{PlainBits, Raw
 use Rattle.bitmap_input.specs.Front.{plain_pixel}
 use Rattle.bitmap_input.specs.Samples.{plain_samples}
 use Rattle.bitmap_input.specs.Inner.Stored.{row_stored}
-use Rattle.bitmap_input.proofs.Appending.{Stays, times_stay, plain_pixel_stays, raw_row_stays, plain_samples_stay, raw_samples_row_stays}
-use Rattle.bitmap_input.proofs.Telling.{reads_made, reads_stop}
-use Rattle.bitmap_input.proofs.Showing.{shown_rows, reads_counted}
+use Rattle.bitmap_input.proofs.AddedBytes.{Stays, times_stay, plain_pixel_stays, raw_row_stays, plain_samples_stay, raw_samples_row_stays}
+use Rattle.bitmap_input.proofs.ComposedSteps.{reads_made, reads_stop}
+use Rattle.bitmap_input.proofs.RasterPages.{shown_rows, reads_counted}
 
 module _ {A : Type 0} {mid new : Buffered} {fmid now : Option Files} (level : ℕ) (invert : Bool) (entry : A → Entry) (f : A → Bool) (row : ℕ → List ℕ → Cut (List A)) (p : Pixels) (s : Sides) (wide : p.width ≡ s.width) (high : p.height ≡ s.height) where
   -- the page was read
@@ -36,7 +36,7 @@ module _ {A : Type 0} {mid new : Buffered} {fmid now : Option Files} (level : �
       let at_width = subst (λ w. Reads (IsShown level invert) (rows_raster entry (row w) w p.height) mid fmid (Ok q) new now) wide at_page in
       subst (λ h. Reads (IsShown level invert) (rows_raster entry (row s.width) s.width h) mid fmid (Ok q) new now) high at_width
 
-  -- a row could not be read
+  -- a row couldn't be read
   pub rows_stopped : (q : Pixels) (stop : Stop) →
       Reads {X = Unit {0}} (λ _ rows. image_of q ≡ with_rows (image_of p) p.height (map (map f) rows)) (repeated (row p.width) p.height) mid fmid (Err stop) new now →
       Reads (IsShown level invert) (rows_raster entry (row s.width) s.width s.height) mid fmid (Err stop) new now
@@ -45,7 +45,7 @@ module _ {A : Type 0} {mid new : Buffered} {fmid now : Option Files} (level : �
       let at_width = subst (λ w. Reads (IsShown level invert) (rows_raster entry (row w) w p.height) mid fmid (Err stop) new now) wide at_page in
       subst (λ h. Reads (IsShown level invert) (rows_raster entry (row s.width) s.width h) mid fmid (Err stop) new now) high at_width
 
--- the sides of the page are those that the header gives
+-- the sides of the page are those in the header
 pub rows_at : {A : Type 0} {mid new : Buffered} {fmid now : Option Files} {result : Result Pixels Stop} (level : ℕ) (invert : Bool) (entry : A → Entry) (row : ℕ → List ℕ → Cut (List A)) (s : Sides) (a : ℕ × ℕ) → IsSides s a →
     Reads (IsShown level invert) (rows_raster entry (row s.width) s.width s.height) mid fmid result new now →
     Reads (IsShown level invert) (rows_raster entry (row a.0) a.0 a.1) mid fmid result new now
@@ -53,7 +53,7 @@ rows_at {mid = mid} {new = new} {fmid = fmid} {now = now} {result = result} leve
     let at_width = subst (λ w. Reads (IsShown level invert) (rows_raster entry (row w) w s.height) mid fmid result new now) (sym is.0) r in
     subst (λ h. Reads (IsShown level invert) (rows_raster entry (row a.0) a.0 h) mid fmid result new now) (sym is.1) at_width
 
--- a row stays where bytes are added
+-- a row stays the same when bytes are added
 pub row_stays : (r : Raster) (width : ℕ) → Stays (row_stored r width)
 row_stays (PlainBits invert) width = times_stay plain_pixel plain_pixel_stays width
 row_stays (RawBits invert) width = raw_row_stays width

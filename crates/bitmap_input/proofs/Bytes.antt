@@ -1,20 +1,20 @@
--- Lengths of runs at the front of a list of bytes: within the list, no shorter where bytes are added,
--- and the same where the run ends before the list does.
+-- The length of a run at the beginning of a list is within the list, doesn't shrink when bytes are added, and
+-- stays the same if the run ends before the list does.
 use Rattle.std.proofs.Common.{◌≡◌, refl, ℕ, suc, ◌≤◌, Bool, true, false, cond, not, List, [], ◌∷◌, ◌++◌, length, drop, arith, ap}
 use Rattle.std.specs.Prelude.{nat_eq}
 use Rattle.bitmap_input.specs.PageParts.{is_empty, run_length, gap_length, ends_line, is_space}
 
--- the run takes the byte or not, and is within the list
+-- the run takes the byte or not, and lies within the list
 within : (t : Bool) (n : ℕ) (b : ℕ) (bs : List ℕ) → n ≤ length bs → cond t (suc n) 0 ≤ length (b ∷ bs)
 within true n b bs h = omega arith
 within false n b bs h = omega arith
 
--- the run takes the byte or not, and is no shorter
+-- the run takes the byte or not, and isn't shorter
 no_less : (t : Bool) (n m : ℕ) → n ≤ m → cond t (suc n) 0 ≤ cond t (suc m) 0
 no_less true n m h = omega arith
 no_less false n m h = omega arith
 
--- the run takes the byte or not, and is the same
+-- the run takes the byte or not, and has the same length
 pick : (t : Bool) (n m : ℕ) (b : ℕ) (bs : List ℕ) → (is_empty (drop n bs) ≡ false → m ≡ n) →
     is_empty (drop (cond t (suc n) 0) (b ∷ bs)) ≡ false → cond t (suc m) 0 ≡ cond t (suc n) 0
 pick true n m b bs same more = ap suc (same more)
@@ -35,7 +35,8 @@ run_length-append p [] more h = cc
 run_length-append p (b ∷ bs) more h =
     pick (p b) (run_length p bs) (run_length p (bs ++ more)) b bs (run_length-append p bs more) h
 
--- the same three of a gap, where the byte may begin a comment, be whitespace, or end the gap
+-- a gap lies within the list, isn't shorter and has the same length, whether the byte begins a comment, is
+-- whitespace, or ends the gap
 within_gap : (t u : Bool) (n m : ℕ) (b : ℕ) (bs : List ℕ) → n ≤ length bs → m ≤ length bs →
     cond t (suc n) (cond u (suc m) 0) ≤ length (b ∷ bs)
 within_gap true u n m b bs h k = omega arith

@@ -1,4 +1,4 @@
--- The definitions on small pages of colours.
+-- The definitions, checked on small pages of colours.
 use Rattle.std.proofs.Common.{◌≡◌, refl, true, false, [], ◌∷◌, ◌++◌}
 use Rattle.std.specs.Prelude.{codes}
 use Rattle.bitmap_input.specs.Cut.{is_by_end}
@@ -10,7 +10,7 @@ use Rattle.bitmap_input.specs.Raw.Entry.{Triple}
 use Rattle.bitmap_input.specs.Front.{front, page_at}
 use Rattle.bitmap_input.specs.Front.Answer.{Page}
 
--- red, and green and blue together
+-- a red pixel, and one of green and blue
 red_and_cyan : Raw
 red_and_cyan = record { width = 2; height = 1; rows = (Triple 255 0 0 255 ∷ Triple 0 255 255 255 ∷ []) ∷ []; least_length = 0 }
 
@@ -22,7 +22,7 @@ raw : front false (codes "P6 2 1 255\n" ++ 255 ∷ 0 ∷ 0 ∷ 0 ∷ 255 ∷ 255
 unfolding red_and_cyan
 raw = refl
 
--- at one half the first one is black, and the second one isn't; inverted it is the other way round
+-- at level 1/2 the first pixel is black, and the second one isn't; inverted it is the other way around
 first_pixel : picture_of 500000 false red_and_cyan 0 0 ≡ true
 unfolding red_and_cyan
 first_pixel = refl
@@ -35,7 +35,7 @@ first_inverted : picture_of 500000 true red_and_cyan 0 0 ≡ false
 unfolding red_and_cyan
 first_inverted = refl
 
--- wide samples, the most significant byte first: sums of 98303 and of 98302 are on both sides of one half
+-- samples of two bytes, the most significant byte first: sums of 98303 and 98302 lie on both sides of level 1/2
 just_white : Raw
 just_white = record { width = 1; height = 1; rows = (Triple 32768 32768 32767 65535 ∷ []) ∷ []; least_length = 0 }
 
@@ -54,7 +54,7 @@ wide_black : picture_of 500000 false just_black 0 0 ≡ true
 unfolding just_black
 wide_black = refl
 
--- the last number may go on behind the end of the bytes, and the last byte can't
+-- more digits could follow the last number, but no byte can change the last raw sample
 last_number : is_by_end (page_at false (codes "P3 1 1 9 4 4 4")) ≡ true
 last_number = refl
 
@@ -64,7 +64,7 @@ number_and_more = refl
 last_byte : is_by_end (page_at false (codes "P6 1 1 9 " ++ 4 ∷ 4 ∷ 4 ∷ [])) ≡ false
 last_byte = refl
 
--- what is refused
+-- pages that are refused
 no_blue : page_at false (codes "P3 1 1 255 0 0") ≡ Stops true (Refused Truncated)
 no_blue = refl
 

@@ -1,4 +1,4 @@
--- Numbers that are read one digit after another.
+-- Reading digits one after another gives their number.
 use Rattle.std.proofs.Common.{◌≡◌, refl, ℕ, ◌+◌, ◌-◌, ◌*◌, true, false, min, List, [], ◌∷◌, ◌++◌, arith}
 use Rattle.bitmap_input.specs.Cut.{Kind}
 use Rattle.bitmap_input.specs.Cut.FileEnd.{Refused}
@@ -14,10 +14,10 @@ value_more n (c ∷ ds) d = value_more (10 * n + (c - 48)) ds d
 pub capped_more : (x y v k : ℕ) → IsCapped x v → y ≡ min (10 * x + k) cap → IsCapped y (10 * v + k)
 capped_more x y v k a b = omega arith
 
--- a number that begins with this digit is the digits from here on
+-- a number that begins with a digit is its run of digits
 pub number_at : (kind : Kind) (b : ℕ) (xs : List ℕ) → is_digit b ≡ true → number kind (b ∷ xs) ≡ digits (b ∷ xs)
 number_at kind b xs test = rw test refl
 
--- no number begins with another byte than a digit
+-- no number begins with a byte that isn't a digit
 pub no_number_at : (kind : Kind) (b : ℕ) (xs : List ℕ) → is_digit b ≡ false → number kind (b ∷ xs) ≡ Stops false (Refused kind)
 no_number_at kind b xs test = rw test refl

@@ -1,4 +1,4 @@
--- The definitions on small files, most of them made by hand for a format's edge.
+-- The definitions, checked on small files, most of them at the limits of a format.
 use Rattle.std.proofs.Common.{◌≡◌, refl, ℕ, Bool, true, false, inl, inr, List, [], ◌∷◌, ◌++◌, arith}
 use Rattle.std.specs.Prelude.{codes}
 use Rattle.bitmap_input.specs.Cut.{is_by_end}
@@ -15,13 +15,13 @@ use Rattle.bitmap_input.specs.Front.Answer.{Page}
 use Rattle.bitmap_input.specs.FilePages.{FilePages}
 use Rattle.bitmap_input.specs.Reading.{AreNeeded}
 use Rattle.bitmap_input.specs.FilePages.FilePages.{Ended, Next}
-use Rattle.bitmap_input.proofs.Telling.{not_true}
+use Rattle.bitmap_input.proofs.ComposedSteps.{not_true}
 
 -- a page of bits
 abbrev pub bits_page : ℕ → ℕ → List (List Bool) → Raw
 bits_page width height rows = entries_page (λ b. Bit b) width height rows
 
--- one black pixel, whose page is not by the end: the line feed belongs to what follows
+-- one black pixel: bytes added couldn't change the page, and the line feed belongs to what follows
 one_pixel : page_at false (codes "P1 1 1 1\n") ≡ Takes false (bits_page 1 1 ((true ∷ []) ∷ [])) (10 ∷ [])
 one_pixel = refl
 
@@ -37,7 +37,7 @@ padding : front false (codes "P4\n9 2\n" ++ 0x7f ∷ 0x7f ∷ 0x80 ∷ 0x7f ∷ 
 unfolding two_rows
 padding = refl
 
--- Row 0 is the lowest: of the two rows above, the first one is row 1, and outside all is white.
+-- Row 0 is the lowest one: of the two rows above, the first is row 1, and everything outside is white.
 upper_left : picture_of 500000 false (bits_page 9 2 two_rows) 0 1 ≡ false
 unfolding two_rows
 upper_left = refl
@@ -54,11 +54,11 @@ right_of_the_page = refl
 comments : front false (codes "P1 # c\n2 #d\n1\n1#x\n0") ≡ Page (bits_page 2 1 ((true ∷ false ∷ []) ∷ [])) 19
 comments = refl
 
--- a byte 13 ends a comment too
+-- a carriage return ends a comment too
 carriage_return : front false (codes "P1#c\r1 1 1") ≡ Page (bits_page 1 1 ((true ∷ []) ∷ [])) 10
 carriage_return = refl
 
--- two raw pages, and then bytes that begin no page
+-- two raw pages, and then bytes that don't begin a page
 two_pages_and_more : List ℕ
 two_pages_and_more = codes "P4 1 1\n" ++ 0x80 ∷ [] ++ codes "P4 1 1\n" ++ 0x80 ∷ [] ++ codes "xyz"
 
@@ -69,12 +69,12 @@ trailing : FilePages false two_pages_and_more (black_pixel ∷ black_pixel ∷ [
 unfolding two_pages_and_more black_pixel
 trailing = Next {used = 8} refl (Next {used = 8} refl (Ended refl))
 
--- a second page whose last row is short
+-- a second page with a last row that is too short
 short_last_row : FilePages false (codes "P4 1 1\n" ++ 0x80 ∷ [] ++ codes "P4 8 2\n" ++ 0xff ∷ []) (black_pixel ∷ []) (Refused Truncated)
 unfolding black_pixel
 short_last_row = Next {used = 8} refl (Ended refl)
 
--- what is refused, and whether that is by the end
+-- pages that are refused, and whether bytes added could change this
 nothing : page_at false [] ≡ Stops true (Refused UnknownFormat)
 nothing = refl
 
@@ -105,14 +105,14 @@ two_is_no_pixel = refl
 missing_pixel : page_at false (codes "P1 2 1 1") ≡ Stops true (Refused Truncated)
 missing_pixel = refl
 
--- the last pixel of a plain page and the last byte of a raw one are not by the end
+-- no byte can change the last pixel of a plain page or the last byte of a raw one
 last_pixel : is_by_end (page_at false (codes "P1 1 1 1")) ≡ false
 last_pixel = refl
 
 last_byte : is_by_end (page_at false (codes "P4 1 1 " ++ 0 ∷ [])) ≡ false
 last_byte = refl
 
--- a digit before the end of the bytes is by the end: more digits might follow
+-- bytes added could change a digit at the end: more digits might follow
 last_digit : number BadHeader (codes "12") ≡ Takes true 12 []
 last_digit = refl
 
@@ -122,14 +122,14 @@ leading_zeros = refl
 most_significant_first : bits_of 0xa1 ≡ true ∷ false ∷ true ∷ false ∷ false ∷ false ∷ false ∷ true ∷ []
 most_significant_first = refl
 
--- a run of as many bytes as a gap may have is taken, and one more is refused, also at the end
+-- a run of the greatest length of a gap is taken, and one more byte is refused, also at the end
 longest_gap : run_of 1048576 [] ≡ Takes true [] []
 longest_gap = refl
 
 gap_too_long : (bytes : List ℕ) → run_of 1048577 bytes ≡ Stops false (Refused TooLong)
 gap_too_long bytes = refl
 
--- the second byte of a magic is needed, and no third one where there is no magic
+-- the second byte of a magic number is needed, and no third byte if it isn't a magic number
 second_byte : AreNeeded (λ bytes. page_at false (codes "X" ++ bytes)) (codes "Y")
 second_byte = record { before = []; block = codes "Y"; split = refl; within = omega arith; undecided = inr refl }
 
@@ -139,7 +139,7 @@ no_third_byte needed = elim needed.undecided [
   | inr still ↦ not_true still
 ]
 
--- a gap of a blank, a comment and the end of its line; its length is not that of the list
+-- a gap of a blank, a comment and the end of its line
 blank_and_comment : IsGap (32 ∷ 35 ∷ 120 ∷ 10 ∷ [])
 blank_and_comment = Space refl (Comment (120 ∷ []) (10 ∷ []) refl refl (refl, tt) refl (Space refl Nothing))
 
@@ -150,7 +150,7 @@ its_length = refl
 open_comment : IsGap (35 ∷ 35 ∷ [])
 open_comment = Comment (35 ∷ []) [] refl refl (refl, tt) tt Nothing
 
--- `1` is no gap
+-- `1` isn't a gap
 no_gap_at_all : IsGap (49 ∷ []) → ⊥
 no_gap_at_all (Space h gap) = cc
 no_gap_at_all (Comment text rest h split quiet ends gap) = absurd (omega arith)

@@ -1,4 +1,4 @@
--- The pages of a file: there is one list of them.
+-- A file has exactly one list of pages.
 use Rattle.std.proofs.Common.{◌≡◌, refl, ℕ, zero, suc, ◌≤◌, Bool, true, List, [], ◌∷◌, length, drop, arith, ap, ◌∙◌, subst}
 use Rattle.std.proofs.lemmas.List.{length-drop}
 use Rattle.bitmap_input.specs.Cut.{FileEnd}
@@ -21,7 +21,7 @@ file_pages_same {bytes = bytes} (Next {raw = raw} {used = used} h rest) (Next {r
     let both = file_pages_same rest (subst (λ m. FilePages true (drop m bytes) raws2 ending2) at rest2) in
     (ap (λ x. x ∷ raws2) same ∙ ap (λ xs. raw ∷ xs) both.0, both.1)
 
--- by the number of bytes that are left
+-- there is a list of pages, by the number of bytes that are left
 some_pages : (n : ℕ) (later : Bool) (bytes : List ℕ) → length bytes ≤ n → (answer : Answer) → front later bytes ≡ answer →
     (raws : List Raw) × (ending : FileEnd) × FilePages later bytes raws ending
 some_pages n later bytes within (Ends ending) is = ([], ending, Ended is)

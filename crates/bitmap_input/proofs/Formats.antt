@@ -1,4 +1,4 @@
--- Plain and raw pages as one: the part of a raw page's header that a plain one doesn't have takes nothing there.
+-- Plain and raw pages are read alike: the end of a raw page's header takes no bytes of a plain page.
 use Rattle.std.proofs.Common.{◌≡◌, refl, ℕ, Bool, true, false, List, ap, sym, Option, Result}
 use Rattle.std.specs.Prelude.{nat_le}
 use Rattle.std.proofs.Math.Path.{fun_ext}
@@ -22,20 +22,20 @@ use Rattle.bitmap_input.specs.Inner.Header.{samples_magic}
 use Rattle.bitmap_input.specs.Inner.Reading.{Reads}
 use Rattle.bitmap_input.specs.Inner.Shading.{brightness}
 use Rattle.bitmap_input.specs.Inner.Stored.{samples_raster, row_stored, pixel_entry, sides_and_rows, IsAtLevel}
-use Rattle.bitmap_input.proofs.Appending.{after-false}
+use Rattle.bitmap_input.proofs.AddedBytes.{after-false}
 
 -- a row of samples, plain or raw
 abbrev pub samples_row : Bool → (c : Channels) → ℕ → ℕ → List ℕ → Cut (List (PixelSamples c))
 samples_row true c maxval width = repeated (plain_samples c) width
 samples_row false c maxval width = raw_samples_row c maxval width
 
--- what follows the magic of a plain page of bits
+-- what follows the magic number of a plain page of bits
 pub plain_bits_body : (invert : Bool) (bytes : List ℕ) → body PlainBits bytes ≡ sides_and_rows (raster.PlainBits invert) bytes
 plain_bits_body invert bytes =
     ap (λ next. sides bytes >>= next) (fun_ext (λ s. fun_ext (λ rest.
     sym (after-false (rows_raster (pixel_entry (raster.PlainBits invert)) (row_stored (raster.PlainBits invert) s.0) s.0 s.1 rest)))))
 
--- what follows the magic of a page of samples
+-- what follows the magic number of a page of samples
 pub samples_body : (plain : Bool) (c : Channels) (bytes : List ℕ) → body (samples_magic plain c) bytes ≡ (sides bytes >>= λ s rest. maxval rest >>= λ maxval rest.
     header_end plain rest >>= λ _ rest. rows_raster (as_entry c maxval) (samples_row plain c maxval s.0) s.0 s.1 rest)
 samples_body true c bytes =
@@ -43,14 +43,14 @@ samples_body true c bytes =
     sym (after-false (rows_raster (as_entry c maxval) (samples_row true c maxval s.0) s.0 s.1 rest))))))))
 samples_body false c bytes = refl
 
--- the rows of such a raster are these
+-- the rows of a raster of samples
 pub samples_stored : (plain : Bool) (s : Shading) (level : ℕ) (invert : Bool) (width height : ℕ) {old new : Buffered} {files now : Option Files} {result : Result Pixels Stop} →
     Reads (IsShown level invert) (rows_raster (pixel_entry (samples_raster plain s)) (row_stored (samples_raster plain s) width) width height) old files result new now →
     Reads (IsShown level invert) (rows_raster (as_entry s.channels s.maxval) (samples_row plain s.channels s.maxval width) width height) old files result new now
 samples_stored true s level invert width height r = r
 samples_stored false s level invert width height r = r
 
--- samples are black at the level of the limit
+-- if the limit belongs to the level, samples are black exactly at the level
 pub samples_at_level : (plain : Bool) (s : Shading) (level : ℕ) →
     ((a : PixelSamples s.channels) → is_dark level (as_entry s.channels s.maxval a) ≡ nat_le (brightness s.channels a) s.limit) →
     IsAtLevel level s.invert (samples_raster plain s)

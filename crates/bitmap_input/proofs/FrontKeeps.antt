@@ -1,4 +1,4 @@
--- What a page leaves is the end of what it was given, and shorter.
+-- What a page leaves are the last bytes of its list, and fewer than all.
 use Rattle.std.proofs.Common.{◌≡◌, refl, ℕ, ◌-◌, ◌≤◌, ◌<◌, Bool, true, false, List, [], ◌∷◌, ◌++◌, length, take, drop, arith, ap, sym}
 use Rattle.std.specs.Prelude.{nat_lt}
 use Rattle.std.proofs.lemmas.List.{length-append}
@@ -12,8 +12,8 @@ use Rattle.bitmap_input.specs.Front.{Magic, magic, sides, maxval, plain_pixel, r
 use Rattle.bitmap_input.specs.Samples.{as_entry, plain_samples, raw_samples_row}
 use Rattle.bitmap_input.specs.Front.Answer.{Page}
 use Rattle.bitmap_input.specs.Front.Magic.{PlainBits, RawBits, PlainSamples, RawSamples, Picture}
-use Rattle.bitmap_input.proofs.Showing.{after_takes}
-use Rattle.bitmap_input.proofs.Keeping.{IsRest, LeavesEnd, all_rest, keeps_take, keeps_bind, keeps_run, keeps_space, keeps_times, keeps_magic_behind, keeps_magic, keeps_sides, keeps_maxval, keeps_plain_pixel, keeps_raw_row, keeps_plain_samples, keeps_raw_samples_row}
+use Rattle.bitmap_input.proofs.RasterPages.{after_takes}
+use Rattle.bitmap_input.proofs.LastBytes.{IsRest, LeavesEnd, all_rest, keeps_take, keeps_bind, keeps_run, keeps_space, keeps_times, keeps_magic_behind, keeps_magic, keeps_sides, keeps_maxval, keeps_plain_pixel, keeps_raw_row, keeps_plain_samples, keeps_raw_samples_row}
 use Rattle.bitmap_input.proofs.BmpKeeps.{keeps_bmp}
 
 keeps_rows : {A : Type 0} (entry : A → Entry) (row : List ℕ → Cut (List A)) → ((bytes : List ℕ) → LeavesEnd bytes (row bytes)) →
@@ -51,12 +51,12 @@ behind_front front rest bytes is =
     let n : length bytes - length rest ≡ length front = omega (arith, ap length is, length-append front rest) in
     rw (n, is) (sym (drop-append_seam front rest))
 
--- behind a page stands what follows the bytes that it takes
+-- what a page leaves are the bytes after those that it takes
 pub rest_behind : (later : Bool) (bytes : List ℕ) (e : Bool) (raw : Raw) (rest : List ℕ) → page_at later bytes ≡ Takes e raw rest →
     rest ≡ drop (length bytes - length rest) bytes
 rest_behind later bytes e raw rest h = let p = keeps_page later bytes e raw rest h in behind_front p.0 rest bytes p.1
 
--- what comes behind a run of n bytes leaves an end of what stands behind them
+-- a part after a run of n bytes leaves the last bytes of what follows the run
 pub behind_run : {B : Type 0} (t : Bool) (n : ℕ) (bytes : List ℕ) (g : List ℕ → List ℕ → Cut B) (e : Bool) (b : B) (rest : List ℕ) →
     nat_lt longest n ≡ t → ((x rest : List ℕ) → LeavesEnd rest (g x rest)) → (run_of n bytes >>= g) ≡ Takes e b rest → IsRest rest (drop n bytes)
 behind_run true n bytes g e b rest test parts h = let k = rw test at h in cc
@@ -65,9 +65,9 @@ behind_run false n bytes g e b rest test parts h =
     let p = after_takes (is_empty (drop n bytes)) e (g (take n bytes) (drop n bytes)) b rest k in
     parts (take n bytes) (drop n bytes) p.0 b rest p.1
 
--- A page takes a byte at least.
+-- A page takes at least one byte.
 
--- what the cut leaves is shorter than this
+-- what the cut leaves is shorter than these bytes
 abbrev pub Shortens : {A : Type 0} → List ℕ → Cut A → Type 0
 Shortens {A = A} bytes c = (e : Bool) (a : A) (rest : List ℕ) → c ≡ Takes e a rest → length rest < length bytes
 

@@ -1,8 +1,8 @@
--- A page's answer that isn't by the end of the bytes stays the same where bytes are added.
+-- A page that bytes added couldn't change stays the same when bytes are added.
 use Rattle.std.proofs.Common.{◌≡◌, refl, ℕ, ◌-◌, Bool, false, List, ◌++◌, length, arith, ap, ◌∙◌}
 use Rattle.std.proofs.lemmas.List.{length-append}
 use Rattle.bitmap_input.specs.Cut.{Cut, is_by_end}
-use Rattle.bitmap_input.proofs.Appending.{with_more}
+use Rattle.bitmap_input.proofs.AddedBytes.{with_more}
 use Rattle.bitmap_input.specs.Cut.Cut.{Takes, Stops}
 use Rattle.bitmap_input.specs.PageParts.{spaces, space, repeated}
 use Rattle.bitmap_input.specs.Raw.{Raw}
@@ -11,7 +11,7 @@ use Rattle.bitmap_input.specs.Front.{Magic, magic, sides, maxval, plain_pixel, r
 use Rattle.bitmap_input.specs.Samples.{as_entry, plain_samples, raw_samples_row}
 use Rattle.bitmap_input.specs.Front.Magic.{PlainBits, RawBits, PlainSamples, RawSamples, Picture}
 use Rattle.bitmap_input.specs.Front.Answer.{Page}
-use Rattle.bitmap_input.proofs.Appending.{Stays, stays_bind, times_stay, raster_stays, space_stays, spaces_stay, sides_stay, maxval_stays, plain_pixel_stays, raw_row_stays, plain_samples_stay, raw_samples_row_stays, magic_stays}
+use Rattle.bitmap_input.proofs.AddedBytes.{Stays, stays_bind, times_stay, raster_stays, space_stays, spaces_stay, sides_stay, maxval_stays, plain_pixel_stays, raw_row_stays, plain_samples_stay, raw_samples_row_stays, magic_stays}
 use Rattle.bitmap_input.proofs.BmpStays.{bmp_stays}
 
 pub body_stays : (m : Magic) → Stays (body m)
@@ -41,7 +41,7 @@ body_stays (RawSamples c) bytes more not_end =
     (sides_stay bytes more) not_end
 body_stays Picture bytes more not_end = bmp_stays bytes more not_end
 
--- a page's answer that isn't by the end of the bytes stays where bytes are added
+-- a page stays the same when bytes are added, unless it is by the end of the list
 pub page_stays : (later : Bool) → Stays (page_at later)
 page_stays later bytes more not_end =
     stays_bind (spaces bytes) (spaces (bytes ++ more)) _ more

@@ -1,4 +1,4 @@
--- The definitions on small gray pages, and on inverted ones.
+-- The definitions, checked on small gray pages and on inverted ones.
 use Rattle.std.proofs.Common.{◌≡◌, refl, ℕ, true, false, List, [], ◌∷◌, ◌++◌}
 use Rattle.std.specs.Prelude.{codes}
 use Rattle.bitmap_input.specs.Cut.{is_by_end}
@@ -11,11 +11,11 @@ use Rattle.bitmap_input.proofs.Examples.{bits_page}
 use Rattle.bitmap_input.specs.Front.{front, page_at}
 use Rattle.bitmap_input.specs.Front.Answer.{Page}
 
--- a page of gray samples, of which `maxval` is white
+-- a page of gray samples, with `maxval` as white
 abbrev pub gray_page : ℕ → ℕ → ℕ → List (List ℕ) → Raw
 gray_page maxval width height rows = entries_page (λ v. Sample v maxval) width height rows
 
--- two wide samples, the most significant byte first
+-- two samples of two bytes, the most significant byte first
 two_samples : Raw
 two_samples = gray_page 65535 2 1 ((32767 ∷ 32768 ∷ []) ∷ [])
 
@@ -23,7 +23,7 @@ wide_samples : front false (codes "P5\n2 1\n65535\n" ++ 0x7f ∷ 0xff ∷ 0x80 �
 unfolding two_samples
 wide_samples = refl
 
--- at one half the first one is black, and the second one isn't
+-- at level 1/2 the first sample is black, and the second one isn't
 first_sample : picture_of 500000 false two_samples 0 0 ≡ true
 unfolding two_samples
 first_sample = refl
@@ -32,7 +32,7 @@ second_sample : picture_of 500000 false two_samples 1 0 ≡ false
 unfolding two_samples
 second_sample = refl
 
--- inverted it is the other way round, and outside of the page all stays white
+-- inverted it is the other way around, and everything outside the page stays white
 first_inverted : picture_of 500000 true two_samples 0 0 ≡ false
 unfolding two_samples
 first_inverted = refl
@@ -49,25 +49,25 @@ above_the_page : picture_of 500000 true two_samples 0 1 ≡ false
 unfolding two_samples
 above_the_page = refl
 
--- a bit is what it is at any level
+-- a bit is black or white at any level
 black_bit : picture_of 0 false (bits_page 1 1 ((true ∷ []) ∷ [])) 0 0 ≡ true
 black_bit = refl
 
 white_bit_inverted : picture_of 0 true (bits_page 1 1 ((false ∷ []) ∷ [])) 0 0 ≡ true
 white_bit_inverted = refl
 
--- up to 255 a sample is a byte, and from 256 on two
+-- a sample has one byte if white is at most 255, and two bytes from 256 on
 narrow : front false (codes "P5 2 1 255\n" ++ 0 ∷ 200 ∷ []) ≡ Page (gray_page 255 2 1 ((0 ∷ 200 ∷ []) ∷ [])) 13
 narrow = refl
 
 wide : front false (codes "P5 1 1 256\n" ++ 1 ∷ 0 ∷ []) ≡ Page (gray_page 256 1 1 ((256 ∷ []) ∷ [])) 13
 wide = refl
 
--- samples as numbers, with a comment between them; one is above the sample for white
+-- samples as decimal numbers, with a comment between them; one is greater than white
 plain : front false (codes "P2 2 1 9 4#\n99") ≡ Page (gray_page 9 2 1 ((4 ∷ 99 ∷ []) ∷ [])) 14
 plain = refl
 
--- the last number may go on behind the end of the bytes, and the last byte can't
+-- more digits could follow the last number, but no byte can change the last raw sample
 last_number : is_by_end (page_at false (codes "P2 1 1 9 4")) ≡ true
 last_number = refl
 
@@ -77,7 +77,7 @@ number_and_more = refl
 last_byte : is_by_end (page_at false (codes "P5 1 1 9 " ++ 4 ∷ [])) ≡ false
 last_byte = refl
 
--- what is refused
+-- pages that are refused
 no_white : page_at false (codes "P5 1 1 0\n") ≡ Stops false (Refused BadHeader)
 no_white = refl
 

@@ -1,4 +1,4 @@
--- The parts of a header at their first byte, and the check of its sides.
+-- The parts of a header, given their first byte, and the checks of its sides and of its sample for white.
 use Rattle.std.proofs.Common.{subst, Option, Result, Ok, Err, append-nil, ◌++◌, ◌≡◌, refl, ℕ, zero, suc, ◌≤◌, ◌<◌, Bool, true, false, ◌||◌, ◌⊎◌, inl, inr, List, [], ◌∷◌, arith, ap, sym, ◌∙◌}
 use Rattle.std.specs.Prelude.{nat_lt, if◌then◌else◌}
 use Rattle.std.proofs.lemmas.Bool.{lt-ltb, le-ltb}
@@ -17,16 +17,16 @@ use Rattle.bitmap_input.specs.Inner.Header.{IsSides, Checks, ChecksMaxval}
 use Rattle.pt_core.specs.Files.{Files}
 use Rattle.bitmap_input.specs.Reading.{Buffered}
 use Rattle.bitmap_input.specs.Inner.Reading.{cause_of, StopsBy, Reads, Same}
-use Rattle.bitmap_input.proofs.Needing.{needs_none}
-use Rattle.bitmap_input.proofs.Telling.{not_true, stand}
+use Rattle.bitmap_input.proofs.NeededBytes.{needs_none}
+use Rattle.bitmap_input.proofs.ComposedSteps.{not_true, stand}
 use Rattle.bitmap_input.specs.Reading.Cause.{Says}
 use Rattle.pt_core.specs.declared.limits.TheConstants.{LONGEST_SIDE}
 
--- a gap that begins at this byte
+-- a gap that begins with this byte
 pub some_gap_at : (kind : Kind) (b n : ℕ) (bs : List ℕ) → gap_length false (b ∷ bs) ≡ suc n → some_gap kind (b ∷ bs) ≡ gap (b ∷ bs)
 some_gap_at kind b n bs some = rw (ap is_zero some) refl
 
--- another byte than a gap's
+-- a byte that doesn't begin a gap
 pub no_gap_at : (kind : Kind) (b : ℕ) (bs : List ℕ) → gap_length false (b ∷ bs) ≡ 0 → some_gap kind (b ∷ bs) ≡ Stops false (Refused kind)
 no_gap_at kind b bs none = rw (ap is_zero none) refl
 
@@ -38,7 +38,7 @@ pub magic_of_none : (later : Bool) → is_by_end (magic later []) ≡ true
 magic_of_none true = refl
 magic_of_none false = refl
 
--- what it means that no magic stands there
+-- the ending if there is no magic number
 abbrev pub without_magic : Bool → FileEnd
 without_magic true = Trailing
 without_magic false = Refused UnknownFormat

@@ -1,9 +1,9 @@
--- The bytes of a BMP header in the program's buffer.
+-- The numbers in the program's buffer are those of a BMP header.
 use Rattle.std.proofs.Common.{◌≡◌, refl, ℕ, ◌+◌, ◌-◌, ◌*◌, ◌≤◌, ◌<◌, List, length, take, get_or, arith}
 use Rattle.std.proofs.lemmas.List.{get_or-take, length-take-le}
 use Rattle.bitmap_input.specs.BmpHeader.{byte_at, two_at}
 
--- two bytes of the front of a buffer
+-- a number of two bytes at the beginning of a buffer
 pub two_of_front : (len place : ℕ) (bytes : List ℕ) → 2 ≤ place → place ≤ length (take len bytes) → len ≤ 136 → length bytes ≡ 136 →
     get_or bytes (place - 2) 0 + 256 * get_or bytes (place - 1) 0 ≡ two_at (take len bytes) place
 unfolding two_at byte_at

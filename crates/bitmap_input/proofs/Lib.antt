@@ -1,48 +1,50 @@
+-- The reader's steps give what the definitions say, for any bytes and any inputs, and read no more than they
+-- need.
 mod Examples
 mod BmpExamples
 mod GrayExamples
 mod ColorExamples
 pub mod Bytes
-pub mod Appending
+pub mod AddedBytes
 pub mod BmpStays
 pub mod FrontStays
-pub mod Needing
-pub mod Telling
+pub mod NeededBytes
+pub mod ComposedSteps
 pub mod Places
-pub mod Filling
-pub mod Running
+pub mod FilledBuffer
+pub mod ByteRuns
 pub mod Digits
 pub mod Headers
 pub mod Pixels
-pub mod Painting
+pub mod PaintedPixels
 pub mod Blocks
-pub mod Skipping
+pub mod SkippedBytes
 pub mod Heads
-pub mod BmpReading
+pub mod BmpSteps
 pub mod BmpPixels
 pub mod BmpBits
-pub mod Placing
-pub mod Packing
+pub mod PaintedRows
+pub mod PackedWords
 pub mod Rows
-pub mod Graying
-pub mod Showing
+pub mod SampleBytes
+pub mod RasterPages
 pub mod Shown
 pub mod Bodies
 pub mod BmpPictures
-pub mod Keeping
+pub mod LastBytes
 pub mod BmpKeeps
 pub mod BmpLengths
 pub mod Formats
 pub mod FrontKeeps
-pub mod Spelling
+pub mod PageBytes
 pub mod Behind
 pub mod Rests
-pub mod Answering
+pub mod ReaderResults
 pub mod Longest
-pub mod Leaving
+pub mod StepEffects
 pub mod Files
 pub mod Sided
-pub mod GrayHeading
-pub mod Gathering
+pub mod GrayHeaders
+pub mod GatheredParts
 pub mod NeverEnds
 pub mod GrayAnswers

@@ -28,7 +28,7 @@ ends_line-is_space b h = elim (or_cases (nat_eq b 10) (nat_eq b 13) h) [
   | inr e ↦ let same : b ≡ 13 = eqb-true b 13 e in rw same refl
 ]
 
--- what stands behind a `#`
+-- what follows a `#`
 pub record IsCommented (bytes : List ℕ) : Type 0 where
   pub text : List ℕ
   pub rest : List ℕ
@@ -85,7 +85,7 @@ gap_and_comment (b ∷ bs) =
 pub gap_is_gap : (bytes : List ℕ) → IsGap (take (gap_length false bytes) bytes)
 gap_is_gap bytes = (gap_and_comment bytes).0
 
--- `#` is no whitespace
+-- `#` isn't whitespace
 space_is_no_hash : (b : ℕ) → is_space b ≡ true → nat_eq b 35 ≡ false
 space_is_no_hash b space = ne_eqb b 35 (λ same. both_ways (is_space 35) refl (ap is_space (sym same) ∙ space))
 

@@ -1,4 +1,4 @@
--- Parts that are taken or refused: the pages of a file don't end in them.
+-- Parts that are taken or refused: the pages of a file don't end inside them.
 use Rattle.std.proofs.Common.{◌*◌, ℕ, zero, suc, Bool, true, false, ◌||◌, List, [], ◌∷◌, length, take, drop}
 use Rattle.std.specs.Prelude.{if◌then◌else◌, nat_lt}
 use Rattle.bitmap_input.specs.Cut.{Kind, Cut, after, ◌>>=◌}
@@ -15,7 +15,7 @@ use Rattle.bitmap_input.specs.declared.channels.Channels.{Channels}
 use Rattle.bitmap_input.specs.declared.channels.Channels.TheVariants.{Gray, Color}
 use Rattle.bitmap_input.specs.GrayRows.{gray_alone, gray_kind, gray_magic, header_end, gray_header, gray_header_behind, gray_row}
 
--- it is taken or refused
+-- the cut takes bytes or is refused
 abbrev pub Goes : {A : Type 0} → Cut A → Type 0
 Goes (Takes e x rest) = Unit {0}
 Goes (Stops e End) = ⊥

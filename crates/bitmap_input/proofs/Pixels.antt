@@ -1,4 +1,4 @@
--- The characters of a plain raster.
+-- The character of a plain pixel decides the pixel.
 use Rattle.std.proofs.Common.{◌≡◌, refl, ℕ, true, false, List, ◌∷◌}
 use Rattle.std.specs.Prelude.{nat_eq}
 use Rattle.bitmap_input.specs.Cut.Kind.{BadRaster}
@@ -13,11 +13,11 @@ white_at b xs is = rw is refl
 pub black_at : (b : ℕ) (xs : List ℕ) → b ≡ 49 → pixel (b ∷ xs) ≡ Takes false true xs
 black_at b xs is = rw is refl
 
--- no pixel is another character
+-- a character other than `0` and `1` isn't a pixel
 pub no_pixel_at : (b : ℕ) (xs : List ℕ) → nat_eq b 48 ≡ false → nat_eq b 49 ≡ false → pixel (b ∷ xs) ≡ Stops false (Refused BadRaster)
 no_pixel_at b xs white black = rw (white, black) refl
 
--- the same without whitespace and comments before them
+-- a pixel without whitespace and comments before it
 pub plain_white_at : (b : ℕ) (xs : List ℕ) → b ≡ 48 → plain_pixel (b ∷ xs) ≡ Takes false false xs
 plain_white_at b xs is = rw is refl
 

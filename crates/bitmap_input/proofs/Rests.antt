@@ -1,4 +1,4 @@
--- The rest of a file, where it is told.
+-- The bytes that were read are the first ones of the file's rest, if the rest is known.
 use Rattle.std.proofs.Common.{◌≡◌, refl, ℕ, inl, inr, true, List, ◌++◌, ap, sym, ◌∙◌, subst, Option, Some, None, IfSome, option_map, [], length, take, drop, append-nil, append_assoc}
 use Rattle.std.proofs.lemmas.List.{take-append-drop}
 use Rattle.pt_core.specs.Files.{Files, Opened, unread, unread_of, taken_of, with_read}
@@ -25,14 +25,14 @@ pub rest_after : (before : Option Files) (n : ℕ) (rest more : List ℕ) → un
 rest_after None n rest more h k = cc
 rest_after (Some files) n rest more h k = rest_of files.opened n rest more h k
 
--- this holds of the rest of the file, where it is told
+-- a fact about the rest of the file, if that is known
 pub where_told : (o : Option (List ℕ)) (P : List ℕ → Type 0) → ((rest : List ℕ) → o ≡ Some rest → P rest) → IfSome o P
 where_told None P each = tt
 where_told (Some rest) P each = each rest refl
 
 module _ (h h2 : Buffered) (before now : Option Files) (more rest : List ℕ)
     (at_end : h.ended ≡ true → AtEnd before) (is : unread before ≡ Some rest) (moves : Moves h.ended before h2.ended now more) where
-  -- the bytes that were taken are a front of the rest
+  -- the bytes that were read are the first ones of the rest
   pub taken_first : (more ≡ take (length more) rest) × (h.bytes ++ rest ≡ (h.bytes ++ more) ++ drop (length more) rest)
   taken_first =
       let front_of = subst (λ (o : Option (List ℕ)). IfSome o (λ rest. more ≡ take (length more) rest)) is moves.told in (
@@ -41,7 +41,7 @@ module _ (h h2 : Buffered) (before now : Option Files) (more rest : List ℕ)
             sym (append_assoc h.bytes more (drop (length more) rest)),
       )
 
-  -- no byte is left of the rest: by then all of it had been taken
+  -- if no byte is left of the rest, all of it was read
   pub none_left : h2.ended ≡ true → more ≡ rest
   none_left ended = elim (moves.end ended) [
     | inl was_ended ↦

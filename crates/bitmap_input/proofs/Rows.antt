@@ -1,4 +1,4 @@
--- A row of a page is known by its pixels: eight of them in a byte, or 64 in a word.
+-- A row of a page is known by its pixels: eight in a byte, or 64 in a word.
 use Rattle.std.proofs.Common.{◌≡◌, ◌≢◌, refl, ℕ, zero, suc, ◌+◌, ◌-◌, ◌*◌, ◌/◌, ◌%◌, ◌≤◌, ◌<◌, inl, inr, Bool, true, false, not, ◌&&◌, List, [], ◌∷◌, length, take, map, get_or, arith, ap, sym, ◌∙◌, subst}
 use Rattle.std.specs.Prelude.{nat_eq, nat_lt, min}
 use Rattle.std.proofs.Math.Path.{fun_ext}
@@ -9,7 +9,7 @@ use Rattle.bit_image.specs.Words.{is_one, bit_in}
 use Rattle.bit_image.proofs.Bits.{within-inside, within-right, differ-false, differ-true}
 use Rattle.bitmap_input.specs.Raw.{unpacked}
 use Rattle.bitmap_input.specs.Inner.Raster.{with_row}
-use Rattle.bitmap_input.proofs.Placing.{with_pixels-at, with_pixels-other, length-unpacked}
+use Rattle.bitmap_input.proofs.PaintedRows.{with_pixels-at, with_pixels-other, length-unpacked}
 
 -- the image with these as the first pixels of a row
 pub row_by_pixels : (b c : Image) (y : ℕ) (pixels : List Bool) → ((u : ℕ) → u < length pixels → c u y ≡ get_or pixels u false) →
@@ -22,7 +22,7 @@ row_by_pixels b c y pixels here past others = fun_ext (λ u. fun_ext (λ v. elim
   | inr e ↦ others u v e ∙ sym (with_pixels-other b y 0 u v pixels (λ same _ _. e (sym same)))
 ]))
 
--- a bit behind the first byte
+-- a bit after the first byte
 bit_behind : (b : ℕ) (bytes : List ℕ) (n u : ℕ) → n ≡ u + 8 → bit_in (b ∷ bytes) n ≡ bit_in bytes u
 unfolding bit_in
 bit_behind b bytes n u e =
@@ -45,7 +45,7 @@ get_or-unpacked (b ∷ bytes) (suc (suc (suc (suc (suc (suc (suc zero))))))) h =
 get_or-unpacked (b ∷ bytes) (suc (suc (suc (suc (suc (suc (suc (suc u)))))))) h =
     get_or-unpacked bytes u (omega arith) ∙ sym (bit_behind b bytes (suc (suc (suc (suc (suc (suc (suc (suc u)))))))) u (omega arith))
 
--- the row of a page that is put as bytes
+-- the row of a page that is written as bytes
 pub bytes_placed : (b c : Image) (y w : ℕ) (bytes : List ℕ) → length bytes ≡ (w + 7) / 8 → ((u : ℕ) → w ≤ u → b u y ≡ false) →
     ((u : ℕ) → c u y ≡ (nat_lt u w && bit_in bytes u)) → ((u v : ℕ) → v ≢ y → c u v ≡ b u v) → c ≡ with_row b y (take w (unpacked bytes))
 bytes_placed b c y w bytes len past row others =
@@ -81,13 +81,13 @@ row_flipped b c d y w pixels len is flipped =
     (λ u v other. flipped u v ∙ differ-false (c u v) (is_between 0 w y u v) (ap (λ t. within 0 w u && t) (ne_eqb y v (λ e. other (sym e))) ∙ and_none (within 0 w u)) ∙
     ap (λ (i : Image). i u v) is ∙ with_pixels-other b y 0 u v pixels (λ e _ _. other (sym e)))
 
--- right of the page all is white
+-- everything right of the page is white
 pub white_past : (b : Image) (w h : ℕ) → Fits b w h → (u v : ℕ) → w ≤ u → b u v ≡ false
 white_past b w h fits u v past = false_from_ne_true (b u v) (λ e. let at = (fits u v e).0 in omega arith)
 
 -- Words of a row.
 
--- a row whose words are put one after another, up to one of them
+-- the words of a row, written up to word `at`
 pub record WordsPlaced (f : ℕ → Bool) (w y : ℕ) (b c : Image) (at : ℕ) : Type 0 where
   pub placed : (u : ℕ) → u < 64 * at → c u y ≡ nat_lt u w && f u
   pub left : (u : ℕ) → 64 * at ≤ u → c u y ≡ b u y
@@ -96,7 +96,7 @@ pub record WordsPlaced (f : ℕ → Bool) (w y : ℕ) (b c : Image) (at : ℕ) :
 pub none_placed : (f : ℕ → Bool) (w y : ℕ) (b : Image) → WordsPlaced f w y b b 0
 none_placed f w y b = record { placed = λ u h. absurd (omega arith); left = λ u h. refl; others = λ u v h. refl }
 
--- one word more
+-- one more word was written
 pub word_placed : (f : ℕ → Bool) (w y : ℕ) (b c d : Image) (at word count : ℕ) → WordsPlaced f w y b c at →
     (count ≡ min (w - 64 * at) 64) → ((k : ℕ) → k < count → is_one word k ≡ f (64 * at + k)) →
     ((u : ℕ) → u / 64 ≡ at → d u y ≡ (nat_lt u w && is_one word (u % 64))) →
@@ -116,7 +116,7 @@ word_placed f w y b c d at word count s many pixels here columns others = record
   others = λ u v h. others u v h ∙ s.others u v h;
 }
 
--- all of them
+-- all words were written
 pub words_placed : (f : ℕ → Bool) (w y : ℕ) (b c : Image) (at : ℕ) (pixels : List Bool) → WordsPlaced f w y b c at → w ≤ 64 * at →
     ((u : ℕ) → w ≤ u → b u y ≡ false) → length pixels ≡ w → ((u : ℕ) → u < w → f u ≡ get_or pixels u false) → c ≡ with_row b y pixels
 words_placed f w y b c at pixels s all past len same =

@@ -1,4 +1,4 @@
--- The front of a page's raw PBM text is the page.
+-- Reading the raw PBM text of a page gives the page.
 use Rattle.std.proofs.Common.{◌≡◌, ℕ, zero, suc, ◌+◌, ◌-◌, ◌*◌, ◌/◌, ◌%◌, ◌<◌, ◌≤◌, Bool, true, false, cond, List, [], ◌∷◌, ◌++◌, All, length, get_or, take, map, flat_map, codes, refl, ap, sym, ◌∙◌, subst, arith, append_assoc}
 use Rattle.std.specs.Prelude.{decimal, nat_lt, nat_eq}
 use Rattle.std.specs.List.{range_with_len}
@@ -107,7 +107,7 @@ run_of_digits (d ∷ ds) b s all low =
 bind_takes : {A B : Type 0} (c : Cut A) (f : A → List ℕ → Cut B) (x : A) (y : B) (rest left : List ℕ) → c ≡ Takes false x rest → f x rest ≡ Takes false y left → (c >>= f) ≡ Takes false y left
 bind_takes c f x y rest left first second = rw (first, second) refl
 
--- a run of digits, with a byte behind it
+-- a run of digits, followed by a byte
 number_read : (kind : Kind) (ds : List ℕ) (b : ℕ) (s : List ℕ) → All IsDigit ds → 1 ≤ length ds → length ds ≤ longest → b < 48 → number kind (ds ++ b ∷ s) ≡ Takes false (value 0 ds) (b ∷ s)
 number_read kind ds b s all some short low =
     let run : run_length is_digit (ds ++ b ∷ s) ≡ length ds = run_of_digits ds b s all low in
@@ -137,7 +137,7 @@ behind_gap kind g b (d ∷ ds) s all some short low gap_is =
     bind_takes (some_gap kind (g ∷ d ∷ (ds ++ b ∷ s))) (λ _ rest. number kind rest) (g ∷ []) (value 0 (d ∷ ds)) (d ∷ (ds ++ b ∷ s)) (b ∷ s)
     (some_gap_read kind g d (ds ++ b ∷ s) one) (number_read kind (d ∷ ds) b s all some short low)
 
--- a side, behind a blank or the end of a line
+-- a side after a blank or the end of a line
 side_read : (kind : Kind) (g b n : ℕ) (s : List ℕ) → n ≤ LONGEST_SIDE → b < 48 → ((d : ℕ) (t : List ℕ) → gap_length false (g ∷ d ∷ t) ≡ suc (gap_length false (d ∷ t)))
     → number_behind_gap kind (g ∷ (decimal n ++ b ∷ s)) ≡ Takes false n (b ∷ s)
 side_read kind g b n s small low gap_is =
@@ -181,7 +181,7 @@ rows_read w f (k ∷ ks) s size =
 
 -- ---- the page
 
--- the bytes of the row that stands so many rows below the uppermost one
+-- the bytes of the row that is k rows below the uppermost one
 row_of : Page → ℕ → List ℕ
 row_of page k = row_text page.width (λ x. image_of page x (page.height - suc k))
 
@@ -189,7 +189,7 @@ pixels_of : Page → ℕ → List Bool
 unfolding row_of
 pixels_of page k = take page.width (unpacked (row_of page k))
 
--- what a reader finds
+-- the raw page that a reader finds
 pub raw_of : Page → Raw
 unfolding pixels_of
 raw_of page = entries_page (λ b. Bit b) page.width page.height (map (pixels_of page) (range_with_len 0 page.height))

@@ -1,5 +1,5 @@
--- The pixels of a BMP picture (Microsoft's "Bitmap Storage"): rows of whole fours of bytes, whose
--- pixels are colours or numbers of colours in a palette.
+-- The pixels of a BMP picture (Microsoft's "Bitmap Storage"): each row is padded to a multiple of
+-- four bytes, and its pixels are colours or numbers of colours in a palette.
 use Rattle.std.specs.Prelude.{ℕ, ◌+◌, ◌-◌, ◌*◌, ◌/◌, ◌%◌, ◌^◌, false, List, slice_index_or, map, reverse, if◌then◌else◌, nat_eq, nat_lt}
 use Rattle.std.specs.List.{range_with_len}
 use Rattle.bitmap_input.specs.Cut.{Cut, ◌>>=◌}
@@ -9,25 +9,25 @@ use Rattle.bitmap_input.specs.Raw.{Raw, Entry}
 use Rattle.bitmap_input.specs.Raw.Entry.{Color}
 use Rattle.bitmap_input.specs.BmpHeader.{file_size, pixel_offset, bits, width, height, is_top_down, palette_length, color_bytes, palette_bytes, palette_end, row_length}
 
--- a colour: its blue stands first, then its green and its red
+-- the colour at an index: its bytes are blue, green and red
 abbrev pub color_at : List ℕ → ℕ → Entry
 color_at bytes at = Color (slice_index_or bytes (at + 2) 0) (slice_index_or bytes (at + 1) 0) (slice_index_or bytes at 0)
 
--- the colour of this number in a palette of so many colours, each of so many bytes; there is none
--- past the palette, where it is black
+-- colour number i of a palette that has `colors` colours of `size` bytes each; beyond the palette
+-- it is black
 abbrev pub palette_color : ℕ → ℕ → List ℕ → ℕ → Entry
 palette_color colors size palette i = if nat_lt i colors then color_at palette (size * i) else Color 0 0 0
 
--- a bit, the most significant one of each byte first
+-- bit x of a row; the most significant bit of each byte comes first
 abbrev pub bit_at : List ℕ → ℕ → ℕ
 bit_at row x = (slice_index_or row (x / 8) 0 / 2 ^ (7 - x % 8)) % 2
 
--- a number of four bits, the high half of each byte first
+-- the number in four bits of a row; the upper half of each byte comes first
 abbrev pub half_at : List ℕ → ℕ → ℕ
 half_at row x = if nat_eq (x % 2) 0 then slice_index_or row (x / 2) 0 / 16 else slice_index_or row (x / 2) 0 % 16
 
--- the pixel in column x of a row of bytes, with so many bits each; of the four bytes of 32 bits the
--- last one doesn't count
+-- the pixel in column x of a row with `bits` bits per pixel; if these are 32, the last one of the pixel's four
+-- bytes is ignored
 abbrev pub pixel_in : ℕ → (ℕ → Entry) → List ℕ → ℕ → Entry
 pixel_in bits color row x =
     if nat_eq bits 1 then color (bit_at row x)
@@ -35,7 +35,7 @@ pixel_in bits color row x =
     else (if nat_eq bits 8 then color (slice_index_or row x 0)
     else (if nat_eq bits 24 then color_at row (3 * x) else color_at row (4 * x))))
 
--- the pixels of a row of n bytes; what it holds past the width doesn't count
+-- the pixels of a row of n bytes; its bytes and bits beyond the width are ignored
 abbrev pub color_row : ℕ → ℕ → (ℕ → Entry) → ℕ → List ℕ → Cut (List Entry)
 color_row n bits color width bytes =
     block n bytes >>= λ row rest. Takes false (map (pixel_in bits color row) (range_with_len 0 width)) rest
@@ -45,7 +45,7 @@ abbrev pub bmp_row : List ℕ → List ℕ → List ℕ → Cut (List Entry)
 bmp_row head palette =
     color_row (row_length head) (bits head) (palette_color (palette_length head) (color_bytes head) palette) (width head)
 
--- the picture whose rows come in this order
+-- the picture that has its rows in this order
 abbrev pub picture : List ℕ → List (List Entry) → Raw
 picture head rows = record {
   width = width head;
@@ -54,7 +54,7 @@ picture head rows = record {
   least_length = file_size head;
 }
 
--- what follows the header: the palette, bytes that nothing is said of, up to the pixels' place, and
+-- what follows the header: the palette, bytes that are ignored up to the offset of the pixels, and
 -- the rows
 abbrev pub raster : List ℕ → List ℕ → Cut Raw
 raster head bytes =

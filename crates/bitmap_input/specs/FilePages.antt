@@ -6,12 +6,12 @@ use Rattle.bitmap_input.specs.Raw.{Raw}
 use Rattle.bitmap_input.specs.Front.{front}
 use Rattle.bitmap_input.specs.Front.Answer.{Page, Ends}
 
--- where the next page begins: behind the bytes that this one takes, and behind those that it claims
--- from its magic on
+-- the index at which the next page begins: after the bytes that this page takes, and after those
+-- that it claims
 abbrev pub next_begins : List ℕ → Raw → ℕ → ℕ
 next_begins bytes raw used = max used (run_length is_space bytes + raw.least_length)
 
--- the pages at the front of the bytes, one behind another, and how they end
+-- the pages at the beginning of the bytes, one after another, and how they end
 pub data FilePages : Bool → List ℕ → List Raw → FileEnd → Type 0 where
   Ended : {later : Bool} {bytes : List ℕ} {ending : FileEnd} → front later bytes ≡ Ends ending → FilePages later bytes [] ending
   Next : {later : Bool} {bytes : List ℕ} {raw : Raw} {used : ℕ} {raws : List Raw} {ending : FileEnd} →

@@ -1,5 +1,5 @@
--- The first page of a list of bytes, or what stands there in place of one (Netpbm's format pages
--- "pbm", "pgm" and "ppm"): the parts of a page one after another, as far as each is there and passes its checks.
+-- The first page of a list of bytes, or what comes instead of one (Netpbm's format pages "pbm",
+-- "pgm" and "ppm"): the parts of a page one after another, until one is missing or fails its check.
 use Rattle.std.specs.Prelude.{ℕ, ◌-◌, Bool, true, false, ◌&&◌, ◌||◌, List, [], ◌∷◌, length, take, if◌then◌else◌, nat_eq, nat_lt, Option, Some, None}
 use Rattle.bitmap_input.specs.Cut.{FileEnd, Cut, ◌>>=◌}
 use Rattle.bitmap_input.specs.Cut.Kind.{UnknownFormat, BadHeader}
@@ -14,8 +14,8 @@ use Rattle.bitmap_input.specs.Samples.{as_entry, plain_samples, raw_samples_row}
 use Rattle.bitmap_input.specs.declared.channels.Channels.{Channels}
 use Rattle.bitmap_input.specs.declared.channels.Channels.TheVariants.{Gray, Color}
 
--- the known formats: plain and raw PBM, plain and raw PGM and PPM, which differ in the samples of a
--- pixel, and BMP
+-- the known formats: plain and raw PBM; plain and raw PGM and PPM, which differ in the samples of a
+-- pixel; and BMP
 pub data Magic : Type 0 where
   PlainBits : Magic
   RawBits : Magic
@@ -23,7 +23,7 @@ pub data Magic : Type 0 where
   RawSamples : Channels → Magic
   Picture : Magic
 
--- no known magic stands there: a first page is of an unknown format, and after a page the file ends
+-- there is no known magic number: a first page is of an unknown format, and after a page the bytes are trailing
 abbrev pub no_magic : Bool → Bool → Cut Magic
 no_magic e true = Stops e Trailing
 no_magic e false = Stops e (Refused UnknownFormat)
@@ -40,17 +40,17 @@ magic_named a b =
     else (if nat_eq b 54 then Some (RawSamples Color) else None))))))
     else (if nat_eq a 66 && nat_eq b 77 then Some Picture else None)
 
--- a magic where its two bytes name a format
+-- a magic number, if its two bytes name a format
 abbrev pub magic_of_name : Bool → Option Magic → List ℕ → Cut Magic
 magic_of_name later (Some m) rest = Takes false m rest
 magic_of_name later None rest = no_magic false later
 
--- the second byte of a magic, behind the first one
+-- the second byte of a magic number, after the first one
 abbrev pub magic_behind : Bool → ℕ → List ℕ → Cut Magic
 magic_behind later a [] = no_magic true later
 magic_behind later a (b ∷ rest) = magic_of_name later (magic_named a b) rest
 
--- two bytes that name the format of the page, where `later` says that a page came before
+-- the magic number of a page: two bytes that name its format; `later` says whether a page came before
 abbrev pub magic : Bool → List ℕ → Cut Magic
 magic true [] = Stops true End
 magic false [] = Stops true (Refused UnknownFormat)
@@ -61,7 +61,7 @@ magic false (a ∷ rest) = magic_behind false a rest
 abbrev pub sides : List ℕ → Cut (ℕ × ℕ)
 sides bytes = number_behind_gap BadHeader bytes >>= λ width rest. number_behind_gap BadHeader rest >>= λ height rest. checked width height rest
 
--- the greatest value that the sample for white may have
+-- the greatest sample for white
 abbrev pub greatest_maxval : ℕ
 greatest_maxval = 65535
 
@@ -70,24 +70,24 @@ abbrev pub checked_maxval : ℕ → List ℕ → Cut ℕ
 checked_maxval n bytes =
     if is_zero n || nat_lt greatest_maxval n then Stops false (Refused BadHeader) else Takes false n bytes
 
--- the sample for white
+-- the sample for white, after a gap
 abbrev pub maxval : List ℕ → Cut ℕ
 maxval bytes = number_behind_gap BadHeader bytes >>= λ n rest. checked_maxval n rest
 
--- a pixel's character, with whitespace and comments before it or not
+-- the character of a pixel, after any whitespace and comments
 abbrev pub plain_pixel : List ℕ → Cut Bool
 plain_pixel bytes = gap bytes >>= λ _ rest. pixel rest
 
--- the pixels of a row of whole bytes; what the last byte holds past the width doesn't count
+-- the pixels of a row of whole bytes; bits of the last byte beyond the width are ignored
 abbrev pub raw_row : ℕ → List ℕ → Cut (List Bool)
 raw_row width bytes = block (row_bytes width) bytes >>= λ row rest. Takes false (take width (unpacked row)) rest
 
--- so many rows of values that each stand for an entry, as a page of these sides
+-- `height` rows of values, which are entries, as a page with these sides
 abbrev pub rows_raster : {A : Type 0} → (A → Entry) → (List ℕ → Cut (List A)) → ℕ → ℕ → List ℕ → Cut Raw
 rows_raster entry row width height bytes =
     repeated row height bytes >>= λ rows rest. Takes false (entries_page entry width height rows) rest
 
--- what follows the magic, to the end of the page
+-- what follows the magic number, up to the end of the page
 abbrev pub body : Magic → List ℕ → Cut Raw
 body PlainBits bytes = sides bytes >>= λ s rest. rows_raster (λ b. Bit b) (repeated plain_pixel s.0) s.0 s.1 rest
 body RawBits bytes =
@@ -100,21 +100,21 @@ body (RawSamples c) bytes =
     rows_raster (as_entry c maxval) (raw_samples_row c maxval s.0) s.0 s.1 rest
 body Picture bytes = bmp bytes
 
--- the page that stands at the front of the bytes, with whitespace before its magic or not
+-- the page at the beginning of the bytes, after any whitespace
 abbrev pub page_at : Bool → List ℕ → Cut Raw
 page_at later bytes = spaces bytes >>= λ _ rest. magic later rest >>= λ m rest. body m rest
 
--- the answer that a list of bytes gives: its first page with the number of bytes that it takes, or
--- how the pages end
+-- what a list of bytes gives: its first page with the number of bytes that it takes, or how the
+-- pages end
 pub data Answer : Type 0 where
   Page : Raw → ℕ → Answer
   Ends : FileEnd → Answer
 
--- the answer that a cut of these bytes is
+-- the answer that a cut of these bytes gives
 abbrev pub answer_of : List ℕ → Cut Raw → Answer
 answer_of bytes (Takes e raw rest) = Page raw (length bytes - length rest)
 answer_of bytes (Stops e ending) = Ends ending
 
--- the front of a list of bytes
+-- the answer that a list of bytes gives
 abbrev pub front : Bool → List ℕ → Answer
 front later bytes = answer_of bytes (page_at later bytes)

@@ -1,5 +1,5 @@
--- A gray page row by row (Netpbm's format page "pgm"): its header, which is that of a file's first page,
--- and then one row after another.
+-- A gray page row by row (Netpbm's format page "pgm"): the header of a file's first page, and then
+-- one row after another.
 use Rattle.std.specs.Prelude.{ℕ, Bool, true, false, List, [], min}
 use Rattle.bitmap_input.specs.Cut.{Cut, ◌>>=◌}
 use Rattle.bitmap_input.specs.Cut.Kind.{UnknownFormat}
@@ -13,7 +13,7 @@ use Rattle.bitmap_input.specs.declared.channels.Channels.{Channels}
 use Rattle.bitmap_input.specs.declared.channels.Channels.TheVariants.{Gray, Color}
 use Rattle.bitmap_input.specs.declared.gray_rows.GrayHeader.{GrayHeader}
 
--- samples of gray are known here, and those of colours are not
+-- gray samples are known here, and those of colours aren't
 abbrev pub gray_alone : Bool → Channels → List ℕ → Cut Bool
 gray_alone plain Gray rest = Takes false plain rest
 gray_alone plain Color rest = Stops false (Refused UnknownFormat)
@@ -26,27 +26,27 @@ gray_kind PlainBits rest = Stops false (Refused UnknownFormat)
 gray_kind RawBits rest = Stops false (Refused UnknownFormat)
 gray_kind Picture rest = Stops false (Refused UnknownFormat)
 
--- the magic of a gray page
+-- the magic number of a gray page
 abbrev pub gray_magic : List ℕ → Cut Bool
 gray_magic bytes = magic false bytes >>= gray_kind
 
--- the one byte of whitespace that ends a raw page's header
+-- the whitespace byte that ends the header of a raw page
 abbrev pub header_end : Bool → List ℕ → Cut (List ℕ)
 header_end true rest = Takes false [] rest
 header_end false rest = space rest
 
--- what follows the magic in the header
+-- what follows the magic number in the header
 abbrev pub gray_header_behind : Bool → List ℕ → Cut GrayHeader
 gray_header_behind plain bytes =
     sides bytes >>= λ s rest. maxval rest >>= λ maxval rest. header_end plain rest >>= λ _ rest.
     Takes false (record { plain = plain; width = s.0; height = s.1; maxval = maxval }) rest
 
--- the header of a gray page that is the first of its file
+-- the header of a gray page that is the first page of its file
 abbrev pub gray_header : List ℕ → Cut GrayHeader
 gray_header bytes =
     spaces bytes >>= λ _ rest. gray_magic rest >>= λ plain rest. gray_header_behind plain rest
 
--- a plain sample may be any number; it is given as no more than a raw one can be
+-- the sample that is returned: a plain sample above the greatest one of a raw page is lowered to that one
 abbrev pub lowered : ℕ → ℕ
 lowered v = min v greatest_maxval
 

@@ -1,4 +1,4 @@
--- What inner contracts alone speak of: no promise rests on it.
+-- Definitions for inner contracts: no promise rests on them.
 pub mod Behind
 pub mod BmpHead
 pub mod BmpHeader

@@ -1,5 +1,5 @@
--- The parts of a PBM, PGM or PPM page (Netpbm's format pages "pbm", "pgm" and "ppm"): whitespace, gaps with comments, decimal
--- numbers, the characters of a plain raster, and blocks of a stated length.
+-- The parts of a PBM, PGM or PPM page (Netpbm's format pages "pbm", "pgm" and "ppm"): whitespace, gaps
+-- with comments, decimal numbers, the characters of a plain raster, and blocks of a given length.
 use Rattle.std.specs.Prelude.{ℕ, zero, suc, ◌+◌, ◌-◌, ◌*◌, Bool, true, false, not, ◌&&◌, ◌||◌, List, [], ◌∷◌, length, take, drop, if◌then◌else◌, nat_eq, nat_lt, nat_le}
 use Rattle.bitmap_input.specs.Cut.{Kind, Cut}
 use Rattle.bitmap_input.specs.Cut.Kind.{Truncated, TooLong, BadRaster, BadHeader}
@@ -15,7 +15,7 @@ longest = 1048576
 abbrev pub is_space : ℕ → Bool
 is_space b = (nat_le 9 b && nat_le b 13) || nat_eq b 32
 
--- a line feed or a carriage return, where a comment ends
+-- a line feed or a carriage return, which ends a comment
 abbrev pub ends_line : ℕ → Bool
 ends_line b = nat_eq b 10 || nat_eq b 13
 
@@ -28,18 +28,18 @@ abbrev pub is_zero : ℕ → Bool
 is_zero zero = true
 is_zero (suc n) = false
 
--- no byte is there
+-- the list is empty
 abbrev pub is_empty : List ℕ → Bool
 is_empty [] = true
 is_empty (b ∷ bs) = false
 
--- how many bytes at the front pass the test
+-- how many bytes at the beginning pass the test
 abbrev pub run_length : (ℕ → Bool) → List ℕ → ℕ
 run_length p [] = 0
 run_length p (b ∷ bs) = if p b then suc (run_length p bs) else 0
 
--- how many bytes of whitespace and comments stand at the front, where a comment, from `#` up to the
--- end of its line, has begun or not
+-- how many bytes of whitespace and comments there are at the beginning, inside or outside a
+-- comment; a comment goes from `#` to the end of its line
 abbrev pub gap_length : Bool → List ℕ → ℕ
 gap_length comment [] = 0
 gap_length true (b ∷ bs) = suc (gap_length (not (ends_line b)) bs)
@@ -47,22 +47,22 @@ gap_length false (b ∷ bs) =
     if nat_eq b 35 then suc (gap_length true bs)
     else (if is_space b then suc (gap_length false bs) else 0)
 
--- the end of the list stands where a byte is due, or another byte does
+-- the list ends at a byte that is required, or has another byte there
 abbrev pub missing : {A : Type 0} → Kind → List ℕ → Cut A
 missing kind [] = Stops true (Refused Truncated)
 missing kind (b ∷ bs) = Stops false (Refused kind)
 
--- a run of n bytes, which bytes added at its end would lengthen
+-- a run of n bytes, which more bytes could lengthen
 abbrev pub run_of : ℕ → List ℕ → Cut (List ℕ)
 run_of n bytes =
     if nat_lt longest n then Stops false (Refused TooLong)
     else Takes (is_empty (drop n bytes)) (take n bytes) (drop n bytes)
 
--- whitespace, which may be missing
+-- whitespace, possibly none
 abbrev pub spaces : List ℕ → Cut (List ℕ)
 spaces bytes = run_of (run_length is_space bytes) bytes
 
--- whitespace and comments, which may be missing
+-- whitespace and comments, possibly none
 abbrev pub gap : List ℕ → Cut (List ℕ)
 gap bytes = run_of (gap_length false bytes) bytes
 
@@ -70,7 +70,7 @@ gap bytes = run_of (gap_length false bytes) bytes
 abbrev pub some_gap : Kind → List ℕ → Cut (List ℕ)
 some_gap kind bytes = if is_zero (gap_length false bytes) then missing kind bytes else gap bytes
 
--- the number that digits stand for, after the number that the digits before them stood for
+-- the number that digits form, if the digits before them form n
 abbrev pub value : ℕ → List ℕ → ℕ
 value n [] = n
 value n (d ∷ ds) = value (10 * n + (d - 48)) ds
@@ -81,7 +81,7 @@ number kind bytes =
     if is_zero (run_length is_digit bytes) then missing kind bytes
     else (run_of (run_length is_digit bytes) bytes >>= λ digits rest. Takes false (value 0 digits) rest)
 
--- a decimal number behind a gap of at least one byte
+-- a decimal number after a gap of at least one byte
 abbrev pub number_behind_gap : Kind → List ℕ → Cut ℕ
 number_behind_gap kind bytes = some_gap kind bytes >>= λ _ rest. number kind rest
 
@@ -97,12 +97,12 @@ pixel (b ∷ bs) =
     if nat_eq b 48 then Takes false false bs
     else (if nat_eq b 49 then Takes false true bs else Stops false (Refused BadRaster))
 
--- as many bytes as stated
+-- n bytes
 abbrev pub block : ℕ → List ℕ → Cut (List ℕ)
 block n bytes =
     if nat_lt (length bytes) n then Stops true (Refused Truncated) else Takes false (take n bytes) (drop n bytes)
 
--- the same part so many times
+-- n times the same part
 abbrev pub repeated : {A : Type 0} → (List ℕ → Cut A) → ℕ → List ℕ → Cut (List A)
 repeated part zero bytes = Takes false [] bytes
 repeated part (suc n) bytes =

@@ -1,37 +1,37 @@
--- Raw pages, as a file holds them: rows from the top, each of entries (Netpbm's format pages "pbm", "pgm"
--- and "ppm"), and the page of black and white pixels that one shows at a level.
+-- Raw pages, as a file holds them: rows of entries, from the top (Netpbm's format pages "pbm",
+-- "pgm" and "ppm"); and the page of black and white pixels that a raw page shows at a level.
 use Rattle.std.specs.Prelude.{◌≡◌, ℕ, suc, ◌+◌, ◌-◌, ◌/◌, ◌%◌, Bool, false, List, [], ◌∷◌, ◌++◌, map, slice_index_or, if◌then◌else◌, nat_eq, nat_lt}
 use Rattle.bit_image.specs.Image.{Image, differ}
 use Rattle.threshold_map.specs.Levels.{is_gray_black, is_color_black}
 use Rattle.bit_image.specs.Page.{Page, page_of}
 
--- what the raster holds for one pixel: a bit, which is 1 where the pixel is black; a gray sample, with
--- the sample that is white; three samples, of red, green and blue, with the same; or the red, green and
--- blue of a colour, each from 0 to 255
+-- what the raster holds for a pixel: a bit, which is 1 for black; a gray sample; three samples of
+-- red, green and blue; or a colour of three bytes, red, green and blue from 0 to 255. Samples come
+-- with the sample for white.
 pub data Entry : Type 0 where
   Bit : Bool → Entry
   Sample : ℕ → ℕ → Entry
   Triple : ℕ → ℕ → ℕ → ℕ → Entry
   Color : ℕ → ℕ → ℕ → Entry
 
--- a page as the file holds it, with its rows from the top, and the least number of bytes that it
--- claims from its magic on, which is 0 where the header says nothing of it
+-- a page as the file holds it, with its rows from the top; and the least number of bytes that it
+-- claims, counted from its magic number, which is 0 if the header says nothing of it
 pub record Raw : Type 0 where
   pub width : ℕ
   pub height : ℕ
   pub rows : List (List Entry)
   pub least_length : ℕ
 
--- a page whose rows hold values that each stand for an entry
+-- a page that has rows of values, each of them an entry
 abbrev pub entries_page : {A : Type 0} → (A → Entry) → ℕ → ℕ → List (List A) → Raw
 entries_page entry width height rows =
     record { width = width; height = height; rows = map (map entry) rows; least_length = 0 }
 
--- the bytes of a row that holds eight pixels in a byte
+-- the number of bytes of a row with eight pixels in a byte
 abbrev pub row_bytes : ℕ → ℕ
 row_bytes width = (width + 7) / 8
 
--- the bit of a byte that is worth so much
+-- the bit of a byte that has this worth
 abbrev pub bit_worth : ℕ → ℕ → Bool
 bit_worth worth byte = nat_eq ((byte / worth) % 2) 1
 
@@ -46,8 +46,8 @@ abbrev pub unpacked : List ℕ → List Bool
 unpacked [] = []
 unpacked (b ∷ bs) = bits_of b ++ unpacked bs
 
--- whether an entry is a black pixel at a level, in millionths, before any inversion: a bit is black
--- whatever the level
+-- whether an entry is a black pixel at a level, in millionths, before any inversion: the level
+-- doesn't affect bits
 abbrev pub is_dark : ℕ → Entry → Bool
 is_dark level (Bit b) = b
 is_dark level (Sample v maxval) = is_gray_black level v maxval
@@ -58,7 +58,7 @@ is_dark level (Color r g b) = is_color_black level r g b 255
 abbrev pub black : ℕ → Bool → Entry → Bool
 black level invert entry = differ invert (is_dark level entry)
 
--- the image of a raw page: pixel (x, y) comes from entry x of the row that stands y rows above the
+-- the image of a raw page: pixel (x, y) comes from entry x of the row that is y rows above the
 -- lowest one
 abbrev pub picture_of : ℕ → Bool → Raw → Image
 picture_of level invert raw x y =
@@ -66,7 +66,7 @@ picture_of level invert raw x y =
     then slice_index_or (map (black level invert) (slice_index_or raw.rows (raw.height - suc y) [])) x false
     else false
 
--- the page of a raw page, at a level and inverted or not
+-- the page that a raw page shows, at a level and inverted or not
 abbrev pub shown : ℕ → Bool → Raw → Page
 shown level invert raw = page_of raw.width raw.height (picture_of level invert raw)
 

@@ -1,4 +1,4 @@
--- The reader of a file's pages, and what its answers say of the file.
+-- The reader of a file's pages, and what its results say of the file.
 use Rattle.std.specs.Prelude.{◌≡◌, ℕ, ◌+◌, ◌-◌, Bool, true, false, nat_lt, List, [], ◌++◌, drop, Option, IfSome, Result, Ok, Err}
 use Rattle.pt_core.specs.Files.{Files, unread}
 use Rattle.bit_image.specs.Page.{Page as Pixels}
@@ -14,9 +14,9 @@ use Rattle.bitmap_input.specs.FilePages.{next_begins}
 use Rattle.bitmap_input.specs.Reading.{Moves, AreNeeded, Cause, cause_of_fault}
 use Rattle.bitmap_input.specs.Reading.Cause.{Says, Device, Memory}
 
--- the bytes that were taken from the file and not used yet, how many bytes are still to be skipped
--- behind the last page, which claims them, how many pages were given, whether a read has given
--- nothing, and whether the reader is over
+-- the bytes that were read and not used yet, how many bytes are still to be skipped after the last
+-- page, how many pages were returned, whether a read has returned nothing, and whether the reader
+-- is over
 pub record Reader : Type 0 where
   pub bytes : List ℕ
   pub skip : ℕ
@@ -24,7 +24,7 @@ pub record Reader : Type 0 where
   pub ended : Bool
   pub over : Bool
 
--- a reader before the first byte of a file
+-- a reader at the beginning of a file
 abbrev pub at_start : Reader
 at_start = record { bytes = []; skip = 0; pages = 0; ended = false; over = false }
 
@@ -32,13 +32,13 @@ at_start = record { bytes = []; skip = 0; pages = 0; ended = false; over = false
 abbrev pub is_later : Reader → Bool
 is_later reader = nat_lt 0 reader.pages
 
--- the bytes of which the next page is one: those at hand and those behind them, without those that are
--- still to be skipped
+-- the bytes that the next page begins with: those held and those read after them, without those to
+-- be skipped
 abbrev pub ahead : Reader → List ℕ → List ℕ
 ahead reader more = drop reader.skip (reader.bytes ++ more)
 
--- bytes were taken for this answer, as far as it needs them, and together with those that were at hand
--- they say it; where they say it by their end, a read has given nothing
+-- the bytes that this answer needs were read, and the bytes held and read give it; if bytes added
+-- could change the answer, a read has returned nothing
 pub record Answers (old : Reader) (before : Option Files) (answer : Answer) (new : Reader) (now : Option Files) : Type 0 where
   pub more : List ℕ
   pub moves : Moves old.ended before new.ended now more
@@ -46,8 +46,8 @@ pub record Answers (old : Reader) (before : Option Files) (answer : Answer) (new
   pub is : front (is_later old) (ahead old more) ≡ answer
   pub settled : is_by_end (page_at (is_later old) (ahead old more)) ≡ true → new.ended ≡ true
 
--- the next page was given, at this level and inverted or not: the bytes behind those that it takes are
--- left, and of them are to be skipped those that it claims
+-- the next page was returned, at this level and inverted or not: the bytes after it are left, and
+-- those that it claims are to be skipped
 pub record GivesPage (level : ℕ) (invert : Bool) (old : Reader) (before : Option Files) (page : Pixels) (new : Reader) (now : Option Files) : Type 0 where
   pub raw : Raw
   pub used : ℕ
@@ -58,14 +58,14 @@ pub record GivesPage (level : ℕ) (invert : Bool) (old : Reader) (before : Opti
   pub counted : new.pages ≡ old.pages + 1
   pub going_on : new.over ≡ false
 
--- the pages end so, and the reader is over
+-- the pages end in this way, and the reader is over
 pub record GivesEnding (old : Reader) (before : Option Files) (ending : FileEnd) (new : Reader) (now : Option Files) : Type 0 where
   pub answers : Answers old before (Ends ending) new now
   pub counted : new.pages ≡ old.pages
   pub over : new.over ≡ true
 
--- a read failed: the bytes that were taken for this page say what they say by their end alone, so that
--- all are needed, and no read had given nothing
+-- a read failed: bytes added could change the answer, so all bytes that were read are needed, and
+-- no read had returned nothing before
 pub record ReadFails (old : Reader) (before : Option Files) (new : Reader) (now : Option Files) : Type 0 where
   pub more : List ℕ
   pub moves : Moves old.ended before new.ended now more
@@ -74,8 +74,8 @@ pub record ReadFails (old : Reader) (before : Option Files) (new : Reader) (now 
   pub counted : new.pages ≡ old.pages
   pub over : new.over ≡ true
 
--- memory is wanting: the inputs stand where the reading left them, which took bytes as far as the page
--- needs them
+-- memory ran out: the inputs are as the reading left them, which read only bytes that the page
+-- needs
 pub record MemoryFails (old : Reader) (before : Option Files) (new : Reader) (now : Option Files) : Type 0 where
   pub more : List ℕ
   pub moves : Moves old.ended before new.ended now more
@@ -83,7 +83,7 @@ pub record MemoryFails (old : Reader) (before : Option Files) (new : Reader) (no
   pub counted : new.pages ≡ old.pages
   pub over : new.over ≡ true
 
--- whether the answer is Over
+-- whether the result is Over
 abbrev pub is_over : Result Next InFault → Bool
 is_over (Ok next.Over) = true
 is_over (Ok (next.Page page)) = false
@@ -91,7 +91,7 @@ is_over (Ok next.End) = false
 is_over (Ok next.Trailing) = false
 is_over (Err f) = false
 
--- this holds of the page, where the answer is one
+-- if the result is a page, P holds for it
 abbrev pub IfPage : Result Next InFault → (Pixels → Type 0) → Type 0
 IfPage (Ok (next.Page page)) P = P page
 IfPage (Ok next.Over) P = Unit {0}
@@ -99,13 +99,13 @@ IfPage (Ok next.End) P = Unit {0}
 IfPage (Ok next.Trailing) P = Unit {0}
 IfPage (Err f) P = Unit {0}
 
--- this holds of the ending, where the bytes say one
+-- if the bytes say how the pages end, P holds for the ending
 abbrev pub IfSays : Cause → (FileEnd → Type 0) → Type 0
 IfSays (Says ending) P = P ending
 IfSays Device P = Unit {0}
 IfSays Memory P = Unit {0}
 
--- this holds of the ending, where the answer is End, Trailing or a refusal
+-- if the result is End, Trailing or a refusal, P holds for the ending
 abbrev pub IfEnding : Result Next InFault → (FileEnd → Type 0) → Type 0
 IfEnding (Ok next.End) P = P End
 IfEnding (Ok next.Trailing) P = P Trailing
@@ -113,8 +113,8 @@ IfEnding (Ok (next.Page page)) P = Unit {0}
 IfEnding (Ok next.Over) P = Unit {0}
 IfEnding (Err f) P = IfSays (cause_of_fault f) P
 
--- the next page is this one, at this level and inverted or not, as the whole rest of the file tells, and
--- the page behind it is looked for where this one ends
+-- the whole rest of the file gives this page, at this level and inverted or not, and the next page
+-- is looked for after it
 pub record TellsPage (level : ℕ) (invert : Bool) (old : Reader) (rest : List ℕ) (page : Pixels) (new : Reader) (now : Option Files) : Type 0 where
   pub raw : Raw
   pub used : ℕ
@@ -128,7 +128,7 @@ IsCauseOf (Says ending) answer = answer ≡ Ends ending
 IsCauseOf Device answer = ⊥
 IsCauseOf Memory answer = ⊥
 
--- the reader's answer is the one that the bytes give, at this level and inverted or not
+-- the reader's result is the answer that the bytes give, at this level and inverted or not
 abbrev pub IsAnswer : ℕ → Bool → Result Next InFault → Answer → Type 0
 IsAnswer level invert (Ok (next.Page page)) (Page raw used) = page ≡ shown level invert raw
 IsAnswer level invert (Ok (next.Page page)) (Ends ending) = ⊥

@@ -1,4 +1,4 @@
--- Reading from inputs: which bytes are taken, whether they are needed, and why reading stops.
+-- Reading from inputs: which bytes are read, whether they are needed, and why reading stops.
 use Rattle.std.specs.Prelude.{◌≡◌, ℕ, ◌≤◌, Bool, true, ◌⊎◌, List, [], ◌++◌, length, take, Option, IfSome}
 use Rattle.pt_core.specs.Files.{Files, with_read, unread}
 use Rattle.bitmap_input.specs.declared.fault.InFault.{InFault}
@@ -7,30 +7,30 @@ use Rattle.bitmap_input.specs.Cut.{FileEnd, Cut, is_by_end}
 use Rattle.bitmap_input.specs.Cut.Kind.{UnknownFormat, BadHeader, ZeroSide, TooLarge, Truncated, BadRaster, BmpKind, BadOffset, TooLong}
 use Rattle.bitmap_input.specs.Cut.FileEnd.{Refused}
 
--- the bytes that were taken from the inputs and not used yet, and whether a read has given nothing
+-- the bytes that were read and not used yet, and whether a read has returned nothing
 pub record Buffered : Type 0 where
   pub bytes : List ℕ
   pub ended : Bool
 
--- nothing is left to be read, where that is told
+-- nothing is left to be read, if the file is known
 abbrev pub AtEnd : Option Files → Type 0
 AtEnd files = IfSome (unread files) (λ rest. rest ≡ [])
 
--- these bytes were taken from the inputs: they are a front of what was unread, and none are taken
--- once a read has given nothing, which happens only where nothing is left
+-- these bytes were read from the inputs: they are the first unread ones, and none are read once a
+-- read has returned nothing, which happens only at the end of the file
 pub record Moves (ended : Bool) (before : Option Files) (ended_now : Bool) (now : Option Files) (more : List ℕ) : Type 0 where
   pub files : now ≡ with_read before (length more)
   pub told : IfSome (unread before) (λ rest. more ≡ take (length more) rest)
   pub stopped : ended ≡ true → (more ≡ []) × (ended_now ≡ true)
   pub end : ended_now ≡ true → (ended ≡ true) ⊎ AtEnd now
 
--- why reading stopped: the bytes say so, a read failed, or memory is wanting
+-- why reading stopped: the bytes say so, a read failed, or memory ran out
 pub data Cause : Type 0 where
   Says : FileEnd → Cause
   Device : Cause
   Memory : Cause
 
--- the cause that a fault tells
+-- the cause of a fault
 abbrev pub cause_of_fault : InFault → Cause
 cause_of_fault fault.UnknownFormat = Says (Refused UnknownFormat)
 cause_of_fault fault.BadHeader = Says (Refused BadHeader)
@@ -44,8 +44,8 @@ cause_of_fault fault.TooLong = Says (Refused TooLong)
 cause_of_fault fault.ReadFault = Device
 cause_of_fault fault.NoMemory = Memory
 
--- the cut of these bytes needs them, but for the rest of a last block: there are none, or at most
--- 65,536 of them stand behind a front of them that decides nothing, since the cut is by its end
+-- the cut of these bytes needs them, except for the rest of a last block: there are none, or at most
+-- 65,536 of them follow bytes that don't decide the cut, because bytes added to those could change it
 pub record AreNeeded {A : Type 0} (cut : List ℕ → Cut A) (more : List ℕ) : Type 0 where
   pub before : List ℕ
   pub block : List ℕ

@@ -1,14 +1,14 @@
--- The parts of a page as sets of byte lists (Netpbm's format page "pbm"), beside the lengths that cut
--- them off the front of a list.
+-- The parts of a page as sets of byte lists (Netpbm's format page "pbm"), beside the lengths by
+-- which they are cut.
 use Rattle.std.specs.Prelude.{◌≡◌, ℕ, Bool, true, not, List, [], ◌∷◌, ◌++◌}
 use Rattle.bitmap_input.specs.PageParts.{is_space, ends_line}
 
--- each byte passes the test: digits, or whitespace
+-- each byte passes the test
 abbrev pub AllBytes : (ℕ → Bool) → List ℕ → Type 0
 AllBytes p [] = Unit {0}
 AllBytes p (b ∷ bs) = (p b ≡ true) × AllBytes p bs
 
--- a byte inside of a comment
+-- a byte inside a comment
 abbrev pub is_quiet : ℕ → Bool
 is_quiet b = not (ends_line b)
 
@@ -17,8 +17,8 @@ abbrev pub EndsComment : List ℕ → Type 0
 EndsComment [] = Unit {0}
 EndsComment (b ∷ bs) = ends_line b ≡ true
 
--- whitespace and comments: nothing; or a byte of whitespace and then a gap; or `#`, bytes that end no
--- line, and then a gap that is empty or begins with the end of that line
+-- whitespace and comments: nothing; or a whitespace byte and then a gap; or `#`, bytes that don't
+-- end a line, and then a gap that is empty or begins with the end of that line
 pub data IsGap : List ℕ → Type 0 where
   Nothing : IsGap []
   Space : {b : ℕ} {bs : List ℕ} → is_space b ≡ true → IsGap bs → IsGap (b ∷ bs)

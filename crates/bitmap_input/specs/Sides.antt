@@ -7,7 +7,7 @@ use Rattle.bitmap_input.specs.Cut.FileEnd.{Refused}
 use Rattle.bitmap_input.specs.Cut.Cut.{Takes, Stops}
 use Rattle.bitmap_input.specs.PageParts.{is_zero}
 
--- both sides are in range: first none is 0, and then none is too large
+-- both sides are in range: none is 0, which is checked first, and none is too large
 abbrev pub checked : ℕ → ℕ → List ℕ → Cut (ℕ × ℕ)
 checked width height bytes =
     if is_zero width || is_zero height then Stops false (Refused ZeroSide)

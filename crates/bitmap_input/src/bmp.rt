@@ -29,7 +29,7 @@ use bit_image::Bitmap;
 use pt_core::Inputs;
 use std::alloc::Global;
 
-/// The bytes of a row.
+/// The number of bytes in a row, which is a multiple of four.
 fn row_bytes(header: &Header) -> u32
     ensures value { result ≡ row_bytes_by header.now }
     ensures whole { header.now.sides.width * bits_in header.now.depth ≤ 8 * result }
@@ -37,7 +37,7 @@ fn row_bytes(header: &Header) -> u32
     4 * ((header.sides.width * header.depth.bits() + 31) / 32)
 }
 
-/// The rows, on a page of their own.
+/// Reads the rows into a new page.
 fn read_pixels<I: Inputs>(
     alloc: Global,
     buffer: &mut Buffer,
@@ -65,7 +65,7 @@ fn read_pixels<I: Inputs>(
     Ok(page)
 }
 
-/// What follows the header.
+/// Reads what follows the header: the palette, unused bytes, and the rows.
 fn read_raster<I: Inputs>(
     alloc: Global,
     buffer: &mut Buffer,
@@ -83,7 +83,7 @@ fn read_raster<I: Inputs>(
     read_pixels(alloc, buffer, inputs, header, tone, &table)
 }
 
-/// How many bytes the picture claims behind its last row.
+/// How many bytes the picture claims after its last row, given its file size.
 fn behind(header: &Header) -> u32
     ensures { result ≡ header.now.file_size -
         (header.now.pixel_offset + header.now.sides.height * row_bytes_by header.now) }
@@ -97,10 +97,10 @@ fn behind(header: &Header) -> u32
     }
 }
 
-/// A BMP picture, behind its magic, of which the tone says what is black.
+/// Reads a BMP picture after its magic number. The tone says which colours are black.
 //
-// Memory for the page is taken after all checks of its header, masks and places, so a hostile header takes none.
-// Bytes that are passed over, up to 4 GiB, take none either.
+// Memory for the page is allocated after all checks of the header, so a hostile header costs none. Skipping
+// bytes, up to 4 GiB, allocates none either.
 pub(crate) fn read_bmp<I: Inputs>(
     alloc: Global,
     buffer: &mut Buffer,

@@ -1,4 +1,4 @@
-//! What follows the magic of a page.
+//! What follows the magic number of a page.
 ghost use Rattle.std.specs.Prelude.{◌≡◌, ℕ, true, Bool};
 ghost use Rattle.bitmap_input.specs.Inner.Reading.{Reads, ReadsFrom, Leaves};
 ghost use Rattle.bitmap_input.specs.Front.{body};
@@ -21,7 +21,7 @@ use bit_image::Bitmap;
 use pt_core::Inputs;
 use std::alloc::Global;
 
-/// A page of bits, stored in this way, behind its magic.
+/// Reads a page of bits, stored in this way, after its magic number.
 fn read_bits_body<I: Inputs>(
     alloc: Global,
     buffer: &mut Buffer,
@@ -39,7 +39,7 @@ fn read_bits_body<I: Inputs>(
     read_page(alloc, buffer, inputs, sides, raster)
 }
 
-/// A page of samples, plain or raw, behind its magic.
+/// Reads a page of samples, plain or raw, after its magic number.
 fn read_samples_body<I: Inputs>(
     alloc: Global,
     buffer: &mut Buffer,
@@ -65,7 +65,7 @@ fn read_samples_body<I: Inputs>(
     read_page(alloc, buffer, inputs, sides, raster)
 }
 
-/// The page of this format, behind its magic, of which the tone says what is black.
+/// Reads the rest of a page of this format, after its magic number. The tone says which pixels are black.
 pub(crate) fn read_body<I: Inputs>(
     alloc: Global,
     buffer: &mut Buffer,

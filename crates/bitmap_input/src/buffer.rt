@@ -1,4 +1,4 @@
-//! The bytes that were taken from the inputs and not used yet.
+//! A buffer of bytes that were read and not used yet.
 ghost use Rattle.std.specs.Prelude.{◌≡◌, ℕ, ◌≤◌, ◌<◌, true, false, length, take, drop, [], ◌∷◌, ◌++◌, IfOk};
 ghost use Rattle.bitmap_input.specs.Inner.Buffer.{IsFirst, Fills, CountsRead, Looks, CountsLook};
 ghost use Rattle.bitmap_input.specs.Inner.Reading.{LeavesCounting};
@@ -7,13 +7,14 @@ use pt_core::{DeviceFault, Inputs, NoMemory};
 use std::alloc::Global;
 use std::marker::Model;
 
-/// The most bytes that are taken ahead of those that were used.
+/// The size of the buffer, which bounds how far the reader reads ahead.
 //
-// A quarter of what contracts allow: twelve pages of memory fewer are used for the first time, which costs a small page more
-// than the further calls of the system.
+// It is a quarter of what the contracts allow. The other three quarters would cost twelve page faults, which
+// take a small page longer than the extra system calls.
 pub(crate) const ROOM: usize = 16384;
 
-/// As many are taken first. Most small files have no more, and zeros for more would be a fifth of the work for them.
+/// The size of the first block. Most small files aren't larger, and clearing a larger buffer would be a fifth
+/// of the work for them.
 const FIRST_ROOM: usize = 4096;
 
 /// A buffer of bytes between the inputs and the steps of the reader.
@@ -42,13 +43,13 @@ impl Model for Buffer {
         × (0 < length w.buf.items) × (length w.buf.items ≤ ROOM) };
 }
 
-/// What stands at the front of what is still to be used.
+/// The next byte that hasn't been used, if there is one.
 #[derive(Clone, Copy)]
 pub(crate) enum Look {
     Byte(u8),
-    /// No byte is left.
+    /// The file has no more bytes.
     End,
-    /// The next byte could not be read.
+    /// The next byte couldn't be read.
     Fault,
 }
 
@@ -65,7 +66,7 @@ impl Buffer {
         })
     }
 
-    /// Forgets the bytes, for a file that begins.
+    /// Empties the buffer for a new file.
     pub(crate) fn clear(&mut self)
         ensures { self.new ≡ record { bytes = []; ended = false } }
     {
@@ -74,14 +75,14 @@ impl Buffer {
         self.ended = false;
     }
 
-    /// No more bytes are held than the buffer has room for.
+    /// Shows that the buffer never holds more bytes than fit.
     pub(crate) fn bounded(&self)
         ensures { length self.now.bytes ≤ 65536 }
     {
         let _start = &self.start;
     }
 
-    /// Takes the next bytes from the inputs, where none are left here.
+    /// Reads the next bytes from the inputs. The buffer is empty before.
     #[cold]
     #[inline(never)]
     fn fill<I: Inputs>(&mut self, inputs: &mut I) -> Result<(), DeviceFault>
@@ -99,9 +100,9 @@ impl Buffer {
         Ok(())
     }
 
-    /// Makes room for twice as many bytes, where those that were taken filled all of it.
+    /// Doubles the size of the buffer, if the last block filled it.
     //
-    // It stays as it is where no memory is left: the file is read by smaller blocks then.
+    // If memory runs out, the size stays as it is, and the file is read in smaller blocks.
     fn widen(&mut self)
         requires { self.old.bytes ≡ [] }
         ensures { self.new ≡ self.old }
@@ -111,7 +112,7 @@ impl Buffer {
         }
     }
 
-    /// The first byte, where there is one here.
+    /// The first byte in the buffer, if there is one.
     fn first(&self) -> Option<u8>
         ensures { IsFirst self.now.bytes result }
     {
@@ -122,7 +123,7 @@ impl Buffer {
         }
     }
 
-    /// The next byte, which stays where it is.
+    /// The next byte. It stays in the buffer.
     #[inline(always)]
     pub(crate) fn look<I: Inputs>(&mut self, inputs: &mut I) -> Look
         requires { I.is_opened inputs.old ≡ true }
@@ -144,7 +145,7 @@ impl Buffer {
         }
     }
 
-    /// Goes on behind the first byte.
+    /// Skips the first byte in the buffer.
     pub(crate) fn pass(&mut self)
         requires { 0 < length self.old.bytes }
         ensures bytes { self.new.bytes ≡ drop 1 self.old.bytes }
@@ -153,7 +154,7 @@ impl Buffer {
         self.start += 1;
     }
 
-    /// Goes on behind the first bytes, as many as are here and no more than this: how many.
+    /// Skips bytes in the buffer, at most `most`, and returns how many it skipped.
     pub(crate) fn pass_some(&mut self, most: u32) -> u32
         ensures within { result ≤ most }
         ensures fits { result ≤ length self.old.bytes }
@@ -166,8 +167,7 @@ impl Buffer {
         n as u32
     }
 
-    /// Copies the first bytes to the beginning of `to`, as many as are here and fit, and goes on
-    /// behind them.
+    /// Copies bytes from the buffer to the beginning of `to`, skips them, and returns how many it copied.
     pub(crate) fn give(&mut self, to: &mut [u8]) -> usize
         ensures within { result ≤ length to.old }
         ensures fits { result ≤ length self.old.bytes }

@@ -1,18 +1,18 @@
-//! What the samples of a pixel stand for.
+//! The channels of a pixel.
 ghost use Rattle.std.specs.Prelude.{◌≡◌};
 ghost use Rattle.bitmap_input.specs.Samples.{samples_in};
 
 /// The samples of a pixel.
 #[derive(Clone, Copy)]
 pub(crate) enum Channels {
-    /// One sample, of gray.
+    /// One gray sample.
     Gray,
-    /// Three samples, of red, green and blue.
+    /// Three samples: red, green and blue.
     Color,
 }
 
 impl Channels {
-    /// How many samples a pixel has.
+    /// The number of samples of a pixel.
     pub(crate) fn samples(self) -> u32
         ensures { result ≡ samples_in self }
     {

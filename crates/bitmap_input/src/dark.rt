@@ -1,13 +1,14 @@
-//! Words of 64 pixels that are black where they are dark: as bright as a limit at most.
+//! Words of 64 pixels that are black if they are dark: their brightness is at most a limit.
 //!
-//! The tests of 64 pixels stand in loops of their own, which the compiler makes to tests of eight or sixteen at a time.
+//! The tests of 64 pixels are in loops of their own, so that the compiler tests eight or sixteen pixels at a
+//! time.
 ghost use Rattle.std.specs.Prelude.{◌≡◌, ℕ, ◌+◌, ◌*◌, ◌<◌, ◌≤◌, false, nat_le, length, get_or};
 ghost use Rattle.bit_image.specs.Words.{is_one};
 ghost use Rattle.bitmap_input.specs.Inner.Shading.{bytes_sum};
 
 use crate::words::word_of;
 
-/// Whether each of 64 bytes from a place on is dark.
+/// Tests for each of 64 bytes, starting at index `from`, whether it is dark.
 #[inline(never)]
 fn test_grays(row: &[u8], from: usize, limit: u8, dark: &mut [bool; 64])
     requires { from + 64 ≤ length row.now }
@@ -19,7 +20,7 @@ fn test_grays(row: &[u8], from: usize, limit: u8, dark: &mut [bool; 64])
     }
 }
 
-/// The word of 64 gray pixels of a byte, from a place on.
+/// A word of 64 gray pixels of one byte each, starting at index `from`.
 pub(crate) fn gray_word(row: &[u8], from: usize, limit: u32) -> u64
     requires { from + 64 ≤ length row.now }
     ensures { (k : ℕ) → k < 64 → is_one result k ≡ nat_le (get_or row.now (from + k) 0) limit }
@@ -30,10 +31,10 @@ pub(crate) fn gray_word(row: &[u8], from: usize, limit: u32) -> u64
     word_of(&dark)
 }
 
-/// The brightness of eight colours of three bytes, of which each stands so many bytes behind the last one: those from
-/// colour `at` on.
+/// The brightness of eight colours, starting with colour `at`. Each colour has three bytes and starts `step`
+/// bytes after the one before.
 #[inline(always)]
-#[tactic(auto, using(crate::proofs::Packing::place_within))]
+#[tactic(auto, using(crate::proofs::PackedWords::place_within))]
 fn eight_sums(row: &[u8], from: usize, step: usize, at: usize) -> [u16; 8]
     requires within { from + step * 64 ≤ length row.now }
     requires least { 3 ≤ step }
@@ -48,7 +49,7 @@ fn eight_sums(row: &[u8], from: usize, step: usize, at: usize) -> [u16; 8]
     sums
 }
 
-/// Whether each of eight sums is dark, noted down from a place on.
+/// Tests for each of eight sums whether it is dark, and stores the results at index `at` and after.
 #[inline(always)]
 fn test_eight(sums: &[u16; 8], limit: u16, dark: &mut [bool; 64], at: usize)
     requires few { at ≤ 56 }
@@ -61,9 +62,10 @@ fn test_eight(sums: &[u16; 8], limit: u16, dark: &mut [bool; 64], at: usize)
     }
 }
 
-/// Whether each of 64 colours is dark.
+/// Tests for each of 64 colours whether it is dark.
 //
-// Eight are summed before the first of them is noted down, since the compiler doesn't know that the lists are apart.
+// Eight sums are computed before the first result is stored, because the compiler doesn't know that the two
+// lists don't overlap.
 #[inline(always)]
 fn test_colors(row: &[u8], from: usize, step: usize, limit: u16, dark: &mut [bool; 64])
     requires within { from + step * 64 ≤ length row.now }
@@ -77,7 +79,8 @@ fn test_colors(row: &[u8], from: usize, step: usize, limit: u16, dark: &mut [boo
     }
 }
 
-/// The word of 64 colours of three bytes, each so many bytes behind the last one, from a place on.
+/// A word of 64 colours of three bytes each. The first one is at index `from`, and each is `step` bytes after
+/// the one before.
 #[inline(always)]
 pub(crate) fn color_word(row: &[u8], from: usize, step: usize, limit: u32) -> u64
     requires within { from + step * 64 ≤ length row.now }

@@ -6,37 +6,37 @@ use thiserror::Error;
 
 /// Why the next page of a file can't be read.
 ///
-/// The first offending place of the page decides. After any of these the reader is over.
+/// If a page has several faults, the first one in the file is reported. After a fault the reader is over.
 #[derive(Clone, Copy, Debug, PartialEq, Eq, Error)]
 #[error("{}", self.text())]
 pub enum InFault {
-    /// The file doesn't begin with the magic of a known format.
+    /// The file doesn't begin with the magic number of a known format.
     UnknownFormat,
-    /// The header has another byte where a digit, a gap or the one whitespace byte is due, or its
+    /// A byte in the header isn't a digit, a gap or the one whitespace byte that is required there; or the
     /// sample for white is 0 or above 65535.
     BadHeader,
-    /// The page has no column or no row.
+    /// The page has no columns or no rows.
     ZeroSide,
     /// A side has more pixels than `LONGEST_SIDE`.
     TooLarge,
-    /// The file ends inside the page.
+    /// The file ends before the page does.
     Truncated,
-    /// A plain raster has another byte where a pixel, a gap or a digit is due.
+    /// A byte in a plain raster isn't a pixel, a gap or a digit, as required there.
     BadRaster,
-    /// The page is a BMP picture of a kind that isn't read.
+    /// The page is a BMP picture of a kind that can't be read.
     BmpKind,
-    /// The pixels of a BMP picture begin inside its header or its palette.
+    /// The pixels of a BMP picture begin before the end of its header or palette.
     BadOffset,
     /// A gap or a run of digits has more than 1,048,576 bytes.
     TooLong,
-    /// The device failed while the page was read.
+    /// The device failed while the page was being read.
     ReadFault,
-    /// There isn't enough memory for the page.
+    /// Memory ran out.
     NoMemory,
 }
 
 impl InFault {
-    /// Why the page can't be read, in words.
+    /// Why the page can't be read, as text for a message.
     pub fn text(self) -> &'static str
         ensures { result.now ≡ fault_text self }
     {

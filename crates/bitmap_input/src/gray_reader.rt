@@ -19,7 +19,7 @@ use pt_core::{Inputs, LONGEST_SIDE, NoMemory};
 use std::alloc::Global;
 use std::marker::Model;
 
-/// The sides of a gray page in pixels, and the sample that is white.
+/// The sides of a gray page in pixels, and the sample for white.
 #[derive(Clone, Copy, Debug, PartialEq, Eq)]
 pub struct GrayHead {
     pub width: u32,
@@ -27,12 +27,12 @@ pub struct GrayHead {
     pub maxval: u32,
 }
 
-/// A reader of a gray page that is the first one of the opened file: its head, and then one row after
+/// A reader of a gray page that is the first page of the open file. It reads the head, and then one row after
 /// another from the top.
 #[derive(Debug, Drop)]
 pub struct GrayReader {
     buffer: Buffer,
-    // Room for the bytes of a row.
+    // A buffer for the bytes of a row.
     line: Vec<u8>,
     head: GrayHead,
     plain: bool,
@@ -62,7 +62,7 @@ impl Model for GrayReader {
 }
 
 impl GrayReader {
-    /// A reader before the first byte of a file, with a buffer that grows to 16,384 bytes and room for the
+    /// A reader at the beginning of a file. It has a buffer that grows to 16,384 bytes, and another one for the
     /// bytes of a row.
     pub fn new(alloc: Global) -> Result<GrayReader, NoMemory>
         ensures { IfOk result (λ reader. reader ≡ gray_at_start) }
@@ -83,12 +83,12 @@ impl GrayReader {
         })
     }
 
-    /// Reads the head of the page, whose magic is that of plain or raw PGM.
+    /// Reads the head of the page. The page has to be a plain or raw PGM.
     pub fn head<I: Inputs>(&mut self, inputs: &mut I) -> Result<GrayHead, InFault>
         requires opened { I.is_opened inputs.old ≡ true }
         requires first { self.old ≡ gray_at_start }
 
-        // What each answer says of the bytes that were taken, and that it needed them.
+        // What each result says of the bytes that were read, and that it needed them.
         ensures ok { IfOk result (λ head. GivesHead self.old (I.files inputs.old) head self.new
             (I.files inputs.new)) }
         ensures refused { IfRefused result (λ kind. Refuses gray_header kind self.old
@@ -96,7 +96,7 @@ impl GrayReader {
         ensures read_fault { IsErrOf result InFault.ReadFault → FailsToRead gray_header self.old
             (I.files inputs.old) self.new (I.files inputs.new) }
 
-        // The same of the whole rest of the file, where that is told.
+        // What each result says of the whole rest of the file, if that is known.
         ensures told { IfSome (unread (I.files inputs.old)) (λ rest. IfOk result
             (λ head. TellsHead self.old rest head self.new (I.files inputs.new))) }
         ensures told_refusal { IfSome (unread (I.files inputs.old)) (λ rest. IfRefused result
@@ -107,14 +107,14 @@ impl GrayReader {
         ensures height { IfOk result (λ h. (1 ≤ h.height) × (h.height ≤ LONGEST_SIDE)) }
         ensures maxval { IfOk result (λ h. (1 ≤ h.maxval) × (h.maxval ≤ GREATEST_MAXVAL)) }
 
-        // The inputs' count of faults rises with a read fault alone.
+        // The inputs' count of faults rises only after a read fault.
         ensures steady { OnOk result (I.faults inputs.new ≡ I.faults inputs.old) }
         ensures steady_refusal { IfRefused result (λ _. I.faults inputs.new ≡ I.faults inputs.old) }
         ensures cause { IsErrOf result InFault.ReadFault
             → Rose (I.faults inputs.old) (I.faults inputs.new) }
         ensures never_falls { I.faults inputs.old ≤ I.faults inputs.new }
 
-        // No memory is taken.
+        // No memory is allocated.
         ensures free { IsErrOf result InFault.NoMemory → ⊥ }
 
         ensures still_at_end { self.new.ended ≡ true → AtEnd (I.files inputs.new) }
@@ -141,8 +141,8 @@ impl GrayReader {
         }
     }
 
-    /// Reads the next row, from the top, and gives its samples. In a plain page one above 65535 is given
-    /// as 65535.
+    /// Reads the next row, from the top, and stores its samples in `row`. In a plain page, a sample above 65535
+    /// is stored as 65535.
     pub fn row<I: Inputs>(&mut self, inputs: &mut I, row: &mut [u16]) -> Result<(), InFault>
         requires opened { I.is_opened inputs.old ≡ true }
         requires at_end { self.old.ended ≡ true → AtEnd (I.files inputs.old) }
@@ -150,7 +150,7 @@ impl GrayReader {
         requires rows { self.old.given < self.old.head.height }
         requires width { length row.old ≡ self.old.head.width }
 
-        // What each answer says of the bytes that were taken, and that it needed them.
+        // What each result says of the bytes that were read, and that it needed them.
         ensures ok { IfOk result (λ _. GivesRow self.old (I.files inputs.old) row.new self.new
             (I.files inputs.new)) }
         ensures refused { IfRefused result (λ kind. Refuses
@@ -160,21 +160,21 @@ impl GrayReader {
             (gray_row self.old.plain self.old.head.maxval self.old.head.width) self.old
             (I.files inputs.old) self.new (I.files inputs.new) }
 
-        // The same of the whole rest of the file, where that is told.
+        // What each result says of the whole rest of the file, if that is known.
         ensures told { IfSome (unread (I.files inputs.old)) (λ rest. IfOk result
             (λ _. TellsRow self.old rest row.new self.new (I.files inputs.new))) }
         ensures told_refusal { IfSome (unread (I.files inputs.old)) (λ rest. IfRefused result
             (λ kind. RefusesPart (gray_row self.old.plain self.old.head.maxval self.old.head.width)
             kind (held_of self.old) rest)) }
 
-        // The inputs' count of faults rises with a read fault alone.
+        // The inputs' count of faults rises only after a read fault.
         ensures steady { OnOk result (I.faults inputs.new ≡ I.faults inputs.old) }
         ensures steady_refusal { IfRefused result (λ _. I.faults inputs.new ≡ I.faults inputs.old) }
         ensures cause { IsErrOf result InFault.ReadFault
             → Rose (I.faults inputs.old) (I.faults inputs.new) }
         ensures never_falls { I.faults inputs.old ≤ I.faults inputs.new }
 
-        // No memory is taken.
+        // No memory is allocated.
         ensures free { IsErrOf result InFault.NoMemory → ⊥ }
 
         ensures same_room { length row.new ≡ length row.old }
@@ -205,7 +205,8 @@ impl GrayReader {
     }
 }
 
-/// The fault that an end of reading tells. The pages of a file don't end where its first one is read.
+/// The fault that stopped reading. The reader stops after its first page, so it never reports the end of a
+/// file's pages.
 fn fault_of(stop: Stop) -> InFault
     requires { HasMemory (cause_of stop) }
     ensures told { (cause_of_fault result ≡ cause_of stop) ⊎ IsNoFault (cause_of stop) }
@@ -218,7 +219,7 @@ fn fault_of(stop: Stop) -> InFault
     }
 }
 
-/// One row of a gray page, with room for its bytes.
+/// Reads one row of a gray page. `line` is a buffer for its bytes.
 fn read_samples<I: Inputs>(
     buffer: &mut Buffer,
     inputs: &mut I,

@@ -1,4 +1,4 @@
-//! A gray page row by row: its header, and the samples of one row.
+//! The header of a gray page, and the samples of one row.
 ghost use Rattle.std.specs.Prelude.{◌≡◌, ℕ, ◌+◌, ◌*◌, ◌<◌, ◌≤◌, true, false, length, map, min, IfOk};
 ghost use Rattle.bitmap_input.specs.Inner.Reading.{ReadsFrom, Same, TakesNone};
 ghost use Rattle.bitmap_input.specs.PageParts.{repeated};
@@ -25,11 +25,11 @@ pub(crate) struct GrayHeader {
     pub(crate) plain: bool,
     pub(crate) width: u32,
     pub(crate) height: u32,
-    /// The sample that is white.
+    /// The sample for white.
     pub(crate) maxval: u32,
 }
 
-/// Whether a page of such samples is plain, where they are gray.
+/// Whether a page of samples is plain, if the samples are gray. Pages of colours aren't known here.
 fn check_gray(channels: Channels, plain: bool) -> Result<bool, Stop>
     ensures checks { ChecksKind (gray_alone plain channels) result }
     ensures free { TakesNone result }
@@ -40,7 +40,7 @@ fn check_gray(channels: Channels, plain: bool) -> Result<bool, Stop>
     }
 }
 
-/// Whether a gray page of this format is plain.
+/// Whether a gray page of this format is plain. Other formats aren't known here.
 fn kind_of(format: Format) -> Result<bool, Stop>
     ensures checks { ChecksKind (gray_kind (magic_of format)) result }
     ensures free { TakesNone result }
@@ -54,7 +54,7 @@ fn kind_of(format: Format) -> Result<bool, Stop>
     }
 }
 
-/// The magic of a gray page: whether it is plain.
+/// Reads the magic number of a gray page: whether the page is plain.
 fn read_gray_kind<I: Inputs>(buffer: &mut Buffer, inputs: &mut I) -> Result<bool, Stop>
     requires { I.is_opened inputs.old ≡ true }
     ensures reads { ReadsFrom I.Inputs Same gray_magic buffer.old inputs.old result buffer.new
@@ -65,7 +65,7 @@ fn read_gray_kind<I: Inputs>(buffer: &mut Buffer, inputs: &mut I) -> Result<bool
     kind_of(format)
 }
 
-/// The header of a gray page, which is the first page of its file.
+/// Reads the header of a gray page, which is the first page of its file.
 pub(crate) fn read_gray_header<I: Inputs>(
     buffer: &mut Buffer,
     inputs: &mut I,
@@ -91,7 +91,7 @@ pub(crate) fn read_gray_header<I: Inputs>(
     })
 }
 
-/// The samples of a row of bytes.
+/// Converts a row of bytes to samples.
 fn unpack(line: &[u8], wide: bool, row: &mut [u16])
     requires whole { length (samples wide line.now) ≡ length row.old }
     ensures { row.new ≡ samples wide line.now }
@@ -101,7 +101,7 @@ fn unpack(line: &[u8], wide: bool, row: &mut [u16])
     }
 }
 
-/// One row of a raw gray page, with room for its bytes.
+/// Reads one row of a raw gray page. `line` is a buffer for its bytes.
 pub(crate) fn read_raw_gray_row<I: Inputs>(
     buffer: &mut Buffer,
     inputs: &mut I,
@@ -122,7 +122,7 @@ pub(crate) fn read_raw_gray_row<I: Inputs>(
     Ok(())
 }
 
-/// One row of a plain gray page. A sample above 65535 is given as 65535.
+/// Reads one row of a plain gray page. A sample above 65535 is stored as 65535.
 pub(crate) fn read_plain_gray_row<I: Inputs>(
     buffer: &mut Buffer,
     inputs: &mut I,

@@ -1,4 +1,4 @@
-//! The header of a page: its magic, its sides and its sample for white.
+//! The header of a page: its magic number, its sides and its sample for white.
 ghost use Rattle.std.specs.Prelude.{◌≡◌, ℕ, ◌≤◌, true, false, IfOk, if◌then◌else◌, option_map};
 ghost use Rattle.bitmap_input.specs.Inner.Reading.{ReadsFrom, Any, Same, HasMemory, TakesNone, cause_of};
 ghost use Rattle.bitmap_input.specs.PageParts.{space};
@@ -15,10 +15,10 @@ use crate::sides::Sides;
 use crate::stop::Stop;
 use pt_core::{Inputs, LONGEST_SIDE};
 
-/// The greatest value that the sample for white may have.
+/// The greatest sample for white.
 pub(crate) const GREATEST_MAXVAL: u32 = 65535;
 
-/// The format of a page, which its magic names.
+/// The format of a page, as its magic number says.
 #[derive(Clone, Copy)]
 pub(crate) enum Format {
     /// `P1`, plain PBM.
@@ -33,7 +33,7 @@ pub(crate) enum Format {
     Picture,
 }
 
-/// No known magic stands where one is due.
+/// The answer if there is no known magic number.
 fn no_magic(later: bool) -> Stop
     ensures stop { result ≡ (if later then Stop.Trailing else Stop.Fault InFault.UnknownFormat) }
     ensures free { HasMemory (cause_of result) }
@@ -45,7 +45,7 @@ fn no_magic(later: bool) -> Stop
     }
 }
 
-/// The format that the two bytes name, if they are a magic.
+/// The format that two bytes name, if they are a magic number.
 fn format_named(first: u8, second: u8) -> Option<Format>
     ensures { magic_named first second ≡ option_map magic_of result }
 {
@@ -61,10 +61,10 @@ fn format_named(first: u8, second: u8) -> Option<Format>
     }
 }
 
-/// The second byte of a magic, behind the first one.
+/// Reads the second byte of a magic number.
 //
-// It is asked for whatever the first one is, since a magic of which fewer than two bytes are there is cut short: so a
-// failed read here is a read fault, and not an unknown format.
+// The second byte is read whatever the first one is, because a file that ends after one byte is cut short. So
+// if this read fails, the result is a read fault and not an unknown format.
 fn read_magic_behind<I: Inputs>(
     buffer: &mut Buffer,
     inputs: &mut I,
@@ -89,7 +89,7 @@ fn read_magic_behind<I: Inputs>(
     }
 }
 
-/// The magic of a page, where `later` says that a page of this file came before.
+/// Reads the magic number of a page. `later` says whether this file has had a page already.
 pub(crate) fn read_magic<I: Inputs>(
     buffer: &mut Buffer,
     inputs: &mut I,
@@ -116,7 +116,7 @@ pub(crate) fn read_magic<I: Inputs>(
     }
 }
 
-/// Goes on behind one byte of whitespace.
+/// Skips one byte of whitespace.
 fn skip_space<I: Inputs>(buffer: &mut Buffer, inputs: &mut I) -> Result<(), Stop>
     requires { I.is_opened inputs.old ≡ true }
     ensures reads { ReadsFrom I.Inputs Any space buffer.old inputs.old result buffer.new
@@ -137,7 +137,7 @@ fn skip_space<I: Inputs>(buffer: &mut Buffer, inputs: &mut I) -> Result<(), Stop
     }
 }
 
-/// Goes on behind the byte that ends a raw page's header.
+/// Skips the whitespace byte that ends the header of a raw page.
 pub(crate) fn end_header<I: Inputs>(
     buffer: &mut Buffer,
     inputs: &mut I,
@@ -155,7 +155,7 @@ pub(crate) fn end_header<I: Inputs>(
     }
 }
 
-/// The two numbers as the sides of a page.
+/// The two numbers as the sides of a page, if they are in range.
 pub(crate) fn check(width: u32, height: u32) -> Result<Sides, Stop>
     ensures checks { Checks width height result }
     ensures free { TakesNone result }
@@ -169,7 +169,7 @@ pub(crate) fn check(width: u32, height: u32) -> Result<Sides, Stop>
     Ok(Sides { width, height })
 }
 
-/// The width and the height, each behind a gap.
+/// Reads the width and the height, each after a gap.
 pub(crate) fn read_sides<I: Inputs>(buffer: &mut Buffer, inputs: &mut I) -> Result<Sides, Stop>
     requires { I.is_opened inputs.old ≡ true }
     ensures reads { ReadsFrom I.Inputs IsSides sides buffer.old inputs.old result buffer.new
@@ -181,7 +181,7 @@ pub(crate) fn read_sides<I: Inputs>(buffer: &mut Buffer, inputs: &mut I) -> Resu
     check(width, height)
 }
 
-/// The number as the sample for white.
+/// The number as the sample for white, if it is in range.
 fn check_maxval(number: u32) -> Result<u32, Stop>
     ensures checks { ChecksMaxval number result }
     ensures free { TakesNone result }
@@ -193,7 +193,7 @@ fn check_maxval(number: u32) -> Result<u32, Stop>
     Ok(number)
 }
 
-/// The sample for white, behind a gap.
+/// Reads the sample for white, after a gap.
 pub(crate) fn read_maxval<I: Inputs>(buffer: &mut Buffer, inputs: &mut I) -> Result<u32, Stop>
     requires { I.is_opened inputs.old ≡ true }
     ensures reads { ReadsFrom I.Inputs Same maxval buffer.old inputs.old result buffer.new

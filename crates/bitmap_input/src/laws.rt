@@ -1,4 +1,4 @@
-//! Laws of the pages of a file, which callers and readers of the definitions rest on.
+//! Laws about the pages of a file, for callers and for readers of the definitions.
 ghost use Rattle.std.specs.Prelude.{◌≡◌, ℕ, ◌≤◌, Bool, false, List, ◌++◌, length, take, All};
 ghost use Rattle.bitmap_input.specs.Cut.{FileEnd, is_by_end};
 ghost use Rattle.bitmap_input.specs.PageParts.{run_length, gap_length};
@@ -11,8 +11,8 @@ ghost use Rattle.bitmap_input.specs.Front.Answer.{Page};
 ghost use Rattle.bitmap_input.specs.PageText.{IsPageText};
 ghost use Rattle.bitmap_input.specs.FilePages.{FilePages};
 
-/// What is cut off the front of a list of bytes is the longest member of its set: a run of
-/// whitespace or of digits, and a gap.
+/// A part that is taken from the beginning of the bytes is the longest one of its kind: a run of whitespace or
+/// digits, or a gap.
 pub fn cuts_are_longest()
     ensures run { (p : ℕ → Bool) (bytes : List ℕ) → AllBytes p (take (run_length p bytes) bytes) }
     ensures longest_run { (p : ℕ → Bool) (bytes : List ℕ) (n : ℕ) → n ≤ length bytes
@@ -22,8 +22,8 @@ pub fn cuts_are_longest()
         → n ≤ gap_length false bytes }
 {}
 
-/// The bytes of a page are members of its parts one behind another: whitespace, a magic, and what the
-/// format has behind it.
+/// The bytes of a page are its parts, one after another: whitespace, a magic number, and what its format
+/// requires after it.
 pub fn pages_are_parts()
     ensures parts { (later : Bool) (bytes : List ℕ) (raw : Raw) (used : ℕ)
         → front later bytes ≡ Page raw used → IsPageText raw (take used bytes) }
@@ -31,8 +31,8 @@ pub fn pages_are_parts()
         → front later bytes ≡ Page raw used → used ≤ length bytes }
 {}
 
-/// A front that isn't by the end of the bytes stays the same where bytes are added, and isn't by their
-/// end then either.
+/// A result that no further bytes could change stays the same when bytes are added, and no further bytes can
+/// change it then either.
 pub fn fronts_stay()
     ensures same { (later : Bool) (bytes more : List ℕ) → is_by_end (page_at later bytes) ≡ false
         → front later (bytes ++ more) ≡ front later bytes }
@@ -41,7 +41,7 @@ pub fn fronts_stay()
         → is_by_end (page_at later (bytes ++ more)) ≡ false }
 {}
 
-/// A file has one list of pages, and one ending.
+/// A file has only one list of pages, and one ending.
 pub fn file_pages_are_one()
     ensures some { (later : Bool) (bytes : List ℕ)
         → (raws : List Raw) × (ending : FileEnd) × FilePages later bytes raws ending }
@@ -50,15 +50,15 @@ pub fn file_pages_are_one()
         → (others ≡ raws) × (other ≡ ending) }
 {}
 
-/// What the pages of a file show are pages.
+/// What the pages of a file show are pages, with sides in range.
 pub fn file_pages_are_pages()
     ensures { (later : Bool) (bytes : List ℕ) (raws : List Raw) (ending : FileEnd) (level : ℕ)
         (invert : Bool)
         → FilePages later bytes raws ending → All (λ raw. IsPage (shown level invert raw)) raws }
 {}
 
-/// Whoever reads a page's raw PBM text finds one page, which takes all of the bytes and is this one at
-/// any level.
+/// The raw PBM text of a page contains exactly one page, which takes all bytes and shows the same page at any
+/// level.
 pub fn pbm_texts_show_their_pages()
     ensures { (page : BitmapPage) → IsPage page → (raw : Raw)
         × (front false (pbm_text page) ≡ Page raw (length (pbm_text page)))

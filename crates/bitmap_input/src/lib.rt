@@ -1,18 +1,17 @@
-//! The pages of a file: what each shows, how they end, and where and why a page is refused.
+//! Reads the pages of a file (PBM, PGM, PPM and BMP), and reports how the pages end or why one is refused.
 //!
-//! A file holds pages one behind another, with whitespace before each or not. Plain and raw PBM, PGM
-//! and PPM (Netpbm's format pages "pbm", "pgm" and "ppm") and BMP (Microsoft's "Bitmap Storage") are
-//! read; gray pixels and colours are thresholded at a level. A BMP picture may claim bytes behind its last row;
-//! the next page stands behind them.
+//! A file holds one page after another, with or without whitespace before each of them. It may have plain and
+//! raw PBM, PGM and PPM (Netpbm's format pages "pbm", "pgm" and "ppm") and BMP (Microsoft's "Bitmap Storage").
+//! Gray pixels and colours are compared with a level. A BMP picture may claim bytes after its last row; the
+//! next page follows these bytes.
 //!
 //! ```text
-//! P1             the magic: plain PBM (raw PBM is P4, with eight pixels in a byte)
-//! # two by one   a comment, up to the end of its line
+//! P1             the magic number of plain PBM (raw PBM is P4, with eight pixels in a byte)
 //! 2 1            the width and the height
 //! 1 0            the pixels of each row from the left, the top row first; 1 is black
 //! ```
 //!
-//! `reader` has the reader, `next` and `fault` its answers, and `laws` what its definitions keep.
+//! `reader` has the reader, `next` and `fault` its results, and `laws` the laws of its definitions.
 #![tactic(auto)]
 
 mod bmp;

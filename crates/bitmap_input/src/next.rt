@@ -1,15 +1,15 @@
-//! What a reader answers.
+//! The results of a reader.
 use bit_image::Bitmap;
 
-/// What stands next in a file.
+/// What comes next in a file.
 #[derive(Debug, Drop)]
 pub enum Next {
     /// A page.
     Page(Bitmap),
-    /// The file ends where a page may end.
+    /// The file ends, and no page is incomplete.
     End,
-    /// Bytes that begin no page follow the last page. This is no refusal.
+    /// The bytes after the last page don't begin a page. This isn't an error.
     Trailing,
-    /// The reader is over: it has told the end of the file or a fault already.
+    /// The reader is over: it has reported the end of the file or a fault before.
     Over,
 }

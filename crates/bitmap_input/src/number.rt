@@ -1,4 +1,4 @@
-//! Decimal numbers of a header and of a plain raster.
+//! Decimal numbers in headers and in plain rasters.
 ghost use Rattle.std.specs.Prelude.{◌≡◌, ℕ, ◌≤◌, true, false, suc, List, ◌∷◌};
 ghost use Rattle.bitmap_input.specs.Inner.Reading.{ReadsFrom, Any, HasMemory, TakesNone};
 ghost use Rattle.bitmap_input.specs.Reading.{cause_of_fault};
@@ -14,15 +14,15 @@ use crate::run::{LONGEST, Run, behind, skip};
 use crate::stop::Stop;
 use pt_core::Inputs;
 
-/// A number is cut here where it is larger: it is too large for a side, for the sample for white and for a
-/// sample of a black pixel either way.
+/// Numbers that are greater are capped here. A capped number is too large for a side and for the sample for
+/// white, and as a sample it is never black.
 //
-// A run of digits may have a million digits. A gray sample above 65,535 is white at every level, and so is a colour
-// of which one sample is above 196,605, three times that. So the cut changes no answer, and no definition knows of
-// it.
+// A run of digits may have a million digits. A gray sample above 65,535 is white at every level. A colour is
+// white if one of its samples is above 196,605, three times that. So capping changes no result, and no
+// definition mentions it.
 pub(crate) const CAP: u32 = 200000;
 
-/// A section of a page, to which a number belongs.
+/// A section of a page in which numbers occur.
 #[derive(Clone, Copy)]
 pub(crate) enum Section {
     Header,
@@ -30,7 +30,7 @@ pub(crate) enum Section {
 }
 
 impl Section {
-    /// What another byte than a digit or a gap's means here.
+    /// The fault if a byte here isn't a digit or part of a gap.
     fn fault(self) -> InFault
         ensures cause { cause_of_fault result ≡ Says (Refused (kind_at self)) }
         ensures free { HasMemory (cause_of_fault result) }
@@ -48,7 +48,7 @@ fn is_digit(byte: u8) -> bool
     48 <= byte && byte <= 57
 }
 
-/// The digits that stand at the front, of which there may be none.
+/// Reads the digits that come next. There may be none.
 fn read_digits<I: Inputs>(buffer: &mut Buffer, inputs: &mut I) -> Result<u32, Stop>
     requires { I.is_opened inputs.old ≡ true }
     ensures reads { ReadsFrom I.Inputs IsCapped digits buffer.old inputs.old result buffer.new
@@ -74,7 +74,7 @@ fn read_digits<I: Inputs>(buffer: &mut Buffer, inputs: &mut I) -> Result<u32, St
     Err(Stop::Fault(InFault::TooLong))
 }
 
-/// Goes on behind whitespace and comments, of which there is at least a byte.
+/// Skips whitespace and comments, of at least one byte.
 fn skip_gap<I: Inputs>(buffer: &mut Buffer, inputs: &mut I, section: Section) -> Result<(), Stop>
     requires { I.is_opened inputs.old ≡ true }
     ensures reads { ReadsFrom I.Inputs Any (some_gap (kind_at section)) buffer.old inputs.old result
@@ -91,7 +91,7 @@ fn skip_gap<I: Inputs>(buffer: &mut Buffer, inputs: &mut I, section: Section) ->
     }
 }
 
-/// A number behind a gap, or 200000 where it is larger.
+/// Reads a gap and a number, capped at 200,000.
 pub(crate) fn read_number_behind_gap<I: Inputs>(
     buffer: &mut Buffer,
     inputs: &mut I,

@@ -1,4 +1,4 @@
-//! Plain rasters of bits: a character for each pixel.
+//! Plain rasters of bits: one character per pixel.
 ghost use Rattle.std.specs.Prelude.{◌≡◌, ℕ, ◌<◌, ◌≤◌, true, false, map};
 ghost use Rattle.bit_image.specs.Image.{differ};
 ghost use Rattle.bit_image.specs.Page.{Page, SameSides, image_of};
@@ -14,7 +14,7 @@ use crate::stop::Stop;
 use bit_image::Bitmap;
 use pt_core::Inputs;
 
-/// The character of a pixel: whether it is black.
+/// Reads the character of a pixel: whether it is black.
 fn read_pixel<I: Inputs>(buffer: &mut Buffer, inputs: &mut I) -> Result<bool, Stop>
     requires { I.is_opened inputs.old ≡ true }
     ensures reads { ReadsFrom I.Inputs Same pixel buffer.old inputs.old result buffer.new
@@ -34,14 +34,14 @@ fn read_pixel<I: Inputs>(buffer: &mut Buffer, inputs: &mut I) -> Result<bool, St
     }
 }
 
-/// A pixel, with whitespace and comments before it or not.
+/// Reads a pixel, after any whitespace and comments.
 fn read_plain_pixel<I: Inputs>(buffer: &mut Buffer, inputs: &mut I) -> Result<bool, Stop>
     requires { I.is_opened inputs.old ≡ true }
     ensures reads { ReadsFrom I.Inputs Same plain_pixel buffer.old inputs.old result buffer.new
         inputs.new }
 {
     match buffer.look(inputs) {
-        // Most pixels stand right behind one another.
+        // Most pixels have no gap between them.
         Look::Byte(b'0') => {
             buffer.pass();
             Ok(false)
@@ -59,7 +59,7 @@ fn read_plain_pixel<I: Inputs>(buffer: &mut Buffer, inputs: &mut I) -> Result<bo
     }
 }
 
-/// One row of pixels, painted in row y, inverted or not.
+/// Reads one row of pixels into row `y` of the page, inverted or not.
 pub(crate) fn read_plain_row<I: Inputs>(
     buffer: &mut Buffer,
     inputs: &mut I,

@@ -23,18 +23,18 @@ use std::alloc::Global;
 /// How the pixels of a page are stored, and which of them are black.
 #[derive(Clone, Copy)]
 pub(crate) enum Raster {
-    /// A character for each pixel.
+    /// One character per pixel.
     PlainBits { invert: bool },
-    /// A bit for each pixel.
+    /// One bit per pixel.
     RawBits { invert: bool },
-    /// Samples as numbers.
+    /// Samples written as decimal numbers.
     PlainSamples { shading: Shading },
-    /// Samples as bytes.
+    /// Samples stored as bytes.
     RawSamples { shading: Shading },
 }
 
 impl Raster {
-    /// That of a page of samples, plain or raw.
+    /// The raster of a page of samples, plain or raw.
     pub(crate) fn of_samples(plain: bool, shading: Shading) -> Raster
         ensures { result ≡ samples_raster plain shading }
     {
@@ -45,7 +45,7 @@ impl Raster {
         }
     }
 
-    /// Whether a pixel or a sample is written as characters.
+    /// Whether pixels or samples are written as characters.
     pub(crate) fn is_plain(self) -> bool
         ensures { result ≡ is_plain self }
     {
@@ -55,7 +55,7 @@ impl Raster {
         }
     }
 
-    /// The bytes of a row, where each row has as many.
+    /// The number of bytes of a row, if it is the same for all rows; otherwise 0.
     fn line_bytes(self, width: u32) -> usize
         requires { width ≤ LONGEST_SIDE }
         ensures { result ≡ line_bytes self width }
@@ -68,7 +68,7 @@ impl Raster {
     }
 }
 
-/// One row, put into row y, with room for its bytes.
+/// Reads one row into row `y` of the page. `line` is a buffer for its bytes.
 fn read_row<I: Inputs>(
     buffer: &mut Buffer,
     inputs: &mut I,
@@ -97,7 +97,7 @@ fn read_row<I: Inputs>(
     }
 }
 
-/// The rows from the top, put into the page, with room for the bytes of one of them.
+/// Reads the rows into the page, from the top. `line` is a buffer for the bytes of one of them.
 fn read_rows<I: Inputs>(
     buffer: &mut Buffer,
     inputs: &mut I,
@@ -120,7 +120,7 @@ fn read_rows<I: Inputs>(
     Ok(())
 }
 
-/// The rows behind a header, on a page of their own.
+/// Reads the rows that follow a header into a new page.
 pub(crate) fn read_page<I: Inputs>(
     alloc: Global,
     buffer: &mut Buffer,

@@ -14,7 +14,7 @@ use crate::stop::Stop;
 use bit_image::Bitmap;
 use pt_core::Inputs;
 
-/// As many bytes as the row is long.
+/// Fills `row` from the inputs.
 pub(crate) fn read_block<I: Inputs>(
     buffer: &mut Buffer,
     inputs: &mut I,
@@ -36,9 +36,9 @@ pub(crate) fn read_block<I: Inputs>(
     Ok(())
 }
 
-/// Makes row `y` that of packed bytes, inverted or not.
+/// Replaces row `y` of the page by packed bytes, inverted or not.
 //
-// It is put and then inverted, so that there is no second kind of `put_bytes`.
+// The row is inverted after it was stored, so that no second version of `put_bytes` is needed.
 pub(crate) fn place_row(page: &mut Bitmap, y: u32, bytes: &[u8], invert: bool)
     requires row { y < page.old.height }
     requires whole { length bytes.now ≡ row_bytes page.old.width }
@@ -54,7 +54,7 @@ pub(crate) fn place_row(page: &mut Bitmap, y: u32, bytes: &[u8], invert: bool)
     }
 }
 
-/// One row of bits, put into row y, inverted or not, with room for its bytes.
+/// Reads one row of bits into row `y` of the page, inverted or not. `line` is a buffer for its bytes.
 pub(crate) fn read_raw_row<I: Inputs>(
     buffer: &mut Buffer,
     inputs: &mut I,

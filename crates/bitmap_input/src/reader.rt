@@ -1,4 +1,4 @@
-//! The reader of the pages of a file.
+//! The reader of a file's pages.
 ghost use Rattle.std.specs.Prelude.{◌≡◌, ℕ, ◌<◌, ◌≤◌, ◌⊎◌, true, false, length, drop, IfOk, IfSome, OnOk, IsErrOf};
 ghost use Rattle.pt_core.specs.Counts.{Rose};
 ghost use Rattle.pt_core.specs.Files.{unread};
@@ -25,11 +25,11 @@ use std::alloc::Global;
 use std::marker::Model;
 use threshold_map::Level;
 
-/// A reader of the pages of the opened file, one after another.
+/// A reader of the pages of the open file, one after another.
 #[derive(Debug, Drop)]
 pub struct PageReader {
     buffer: Buffer,
-    // The bytes behind the last page that it claims, which the next call passes over.
+    // How many bytes the next call skips, because the last page claims them.
     skip: u32,
     pages: u32,
     over: bool,
@@ -52,8 +52,8 @@ impl Model for PageReader {
     ghost invariant = { λ r. length r.buffer.bytes ≤ 65536 };
 }
 
-/// The next page, behind bytes that the last one claims and behind whitespace. Where the file ends sooner there is
-/// none.
+/// Reads the next page, after the bytes that the last page claims and any whitespace. If the file ends before
+/// that, there is no page.
 fn read_ahead<I: Inputs>(
     alloc: Global,
     buffer: &mut Buffer,
@@ -74,7 +74,7 @@ fn read_ahead<I: Inputs>(
 }
 
 impl PageReader {
-    /// A reader before the first byte of a file, with a buffer that grows to 16,384 bytes.
+    /// A reader at the beginning of a file, with a buffer that grows to 16,384 bytes.
     pub fn new(alloc: Global) -> Result<PageReader, NoMemory>
         ensures { IfOk result (λ reader. reader ≡ at_start) }
     {
@@ -87,7 +87,7 @@ impl PageReader {
         })
     }
 
-    /// Makes the reader ready for a file that was opened, and forgets the bytes of the one before.
+    /// Makes the reader ready for a file that has just been opened. Bytes of the previous file are dropped.
     pub fn start(&mut self)
         ensures { self.new ≡ at_start }
     {
@@ -97,21 +97,21 @@ impl PageReader {
         self.over = false;
     }
 
-    /// How many pages of this file were given.
+    /// How many pages of this file have been returned.
     pub fn pages(&self) -> u32
         ensures { result ≡ self.now.pages }
     {
         self.pages
     }
 
-    /// Reads the next page of the opened file, at most 65,536 bytes ahead of what it uses, or of what
-    /// decides that there is none.
+    /// Reads the next page of the open file. It reads at most 65,536 bytes more than it needs for the page, or
+    /// for the decision that there is none.
     ///
-    /// A gray pixel or one of a colour is black where it isn't brighter than the level; a bit is
-    /// what it is. Then each pixel is inverted where that is asked for.
+    /// A gray pixel or a colour is black if its brightness is at most the level; a bit 1 is black. If `invert`
+    /// is true, each pixel is then inverted.
     ///
-    /// A page that can't be read is refused by its first offending place. After the end of the
-    /// file, trailing bytes or any fault the answer is `Over` until `start`.
+    /// If a page can't be read, the first fault in it is reported. After the end of the file, trailing bytes or
+    /// any fault, the result is `Over` until `start` is called.
     pub fn next<I: Inputs>(
         &mut self,
         alloc: Global,
@@ -123,11 +123,11 @@ impl PageReader {
         requires room { self.old.pages < 4294967295 }
         requires at_end { self.old.ended ≡ true → AtEnd (I.files inputs.old) }
 
-        // The reader is over after the end of a file and after each fault, and then does nothing.
+        // After the end of a file and after each fault the reader is over, and does nothing.
         ensures over { is_over result ≡ self.old.over }
         ensures idle { is_over result ≡ true → (self.new ≡ self.old) × (inputs.new ≡ inputs.old) }
 
-        // What each answer says of the bytes that were taken, and that it needed them.
+        // What each result says of the bytes that were read, and that it needed them.
         ensures page { IfPage result
             (λ page. GivesPage level.now invert self.old (I.files inputs.old) page self.new
             (I.files inputs.new)) }
@@ -139,7 +139,7 @@ impl PageReader {
         ensures no_memory { IsErrOf result InFault.NoMemory
             → MemoryFails self.old (I.files inputs.old) self.new (I.files inputs.new) }
 
-        // The same of the whole rest of the file, where that is told.
+        // What each result says of the whole rest of the file, if that is known.
         ensures told_page { IfSome (unread (I.files inputs.old))
             (λ rest. IfPage result
             (λ page. TellsPage level.now invert self.old rest page self.new (I.files inputs.new))) }
@@ -147,13 +147,13 @@ impl PageReader {
             (λ rest. IfEnding result (λ ending. front (is_later self.old) (ahead self.old rest)
             ≡ Ends ending)) }
 
-        // Where no read failed and memory is there, the answer is what the rest of the file gives.
+        // If no read failed and memory didn't run out, the result is the one that the rest of the file gives.
         ensures always { IfSome (unread (I.files inputs.old)) (λ rest. self.old.over ≡ false
             → (Rose (I.faults inputs.old) (I.faults inputs.new) → ⊥)
             → IsAnswer level.now invert result (front (is_later self.old) (ahead self.old rest))
             ⊎ IsErrOf result InFault.NoMemory) }
 
-        // The inputs' count of faults rises with a read fault alone.
+        // The inputs' count of faults rises only after a read fault.
         ensures steady { OnOk result (I.faults inputs.new ≡ I.faults inputs.old) }
         ensures steady_ending { IfEnding result (λ _. I.faults inputs.new ≡ I.faults inputs.old) }
         ensures cause { IsErrOf result InFault.ReadFault

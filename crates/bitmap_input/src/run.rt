@@ -9,17 +9,17 @@ use crate::fault::InFault;
 use crate::stop::Stop;
 use pt_core::Inputs;
 
-/// The most bytes of a gap, and of a run of digits.
+/// The greatest number of bytes of a gap, and of a run of digits.
 pub(crate) const LONGEST: u32 = 1048576;
 
-/// A run of bytes, as far as it is known what may come next in it.
+/// A run of bytes, by what may come next in it.
 #[derive(Clone, Copy)]
 pub(crate) enum Run {
-    /// Whitespace alone.
+    /// Only whitespace.
     Space,
-    /// Whitespace and comments, outside of a comment.
+    /// Whitespace and comments. The next byte is outside a comment.
     Gap,
-    /// Whitespace and comments, inside of a comment.
+    /// Whitespace and comments. The next byte is inside a comment.
     Comment,
 }
 
@@ -29,7 +29,7 @@ pub(crate) fn is_space(byte: u8) -> bool
     (9 <= byte && byte <= 13) || byte == 32
 }
 
-/// What the run is behind this byte, or none where it ends before it.
+/// The run after this byte, or none if the run ends before the byte.
 pub(crate) fn behind(run: Run, byte: u8) -> Option<Run>
     ensures { Continues run byte result }
 {
@@ -60,7 +60,7 @@ pub(crate) fn behind(run: Run, byte: u8) -> Option<Run>
     }
 }
 
-/// Goes on behind a run, which may be empty.
+/// Skips a run, which may be empty.
 pub(crate) fn skip<I: Inputs>(buffer: &mut Buffer, inputs: &mut I, run: Run) -> Result<(), Stop>
     requires { I.is_opened inputs.old ≡ true }
     ensures reads { ReadsFrom I.Inputs Any (run_part run) buffer.old inputs.old result buffer.new

@@ -1,5 +1,5 @@
-//! Rasters of samples: for each pixel one of gray, or three of red, green and blue, as numbers or as a
-//! byte or two.
+//! Rasters of samples. A pixel has one gray sample, or one each of red, green and blue. A sample is a decimal
+//! number, one byte or two bytes.
 ghost use Rattle.std.specs.Prelude.{◌≡◌, ℕ, ◌+◌, ◌*◌, ◌<◌, ◌≤◌, true, false, length, map, nat_le, get_or};
 ghost use Rattle.bit_image.specs.Page.{Page, SameSides, image_of};
 ghost use Rattle.bitmap_input.specs.Inner.Reading.{ReadsFrom};
@@ -24,9 +24,9 @@ use bit_image::Bitmap;
 use pt_core::{Inputs, LONGEST_SIDE};
 use threshold_map::Level;
 
-/// The brightness of the brightest pixel that is black, as the sum of its samples.
+/// The greatest brightness of a black pixel. The brightness is the sum of the pixel's samples.
 //
-// It is found once for a page; that of a BMP's colours once for 64 of them.
+// It is computed once per page, and for the colours of a BMP picture once per 64 pixels.
 pub(crate) fn brightest_black(level: &Level, channels: Channels, maxval: u32) -> u32
     requires some { 1 ≤ maxval }
     requires most { maxval ≤ GREATEST_MAXVAL }
@@ -40,7 +40,7 @@ pub(crate) fn brightest_black(level: &Level, channels: Channels, maxval: u32) ->
     }
 }
 
-/// The brightness of a pixel of three samples as numbers.
+/// Reads the brightness of a pixel with three samples in decimal numbers.
 fn read_plain_color<I: Inputs>(buffer: &mut Buffer, inputs: &mut I) -> Result<u32, Stop>
     requires { I.is_opened inputs.old ≡ true }
     ensures reads { ReadsFrom I.Inputs (IsCappedBrightness channels.Color) (plain_samples
@@ -52,8 +52,8 @@ fn read_plain_color<I: Inputs>(buffer: &mut Buffer, inputs: &mut I) -> Result<u3
     Ok(red + green + blue)
 }
 
-/// The brightness of a pixel of samples as numbers. One that is too large to be black may have been
-/// cut.
+/// Reads the brightness of a pixel with samples in decimal numbers. Samples that are too bright to be black may
+/// be capped.
 fn read_plain_samples<I: Inputs>(
     buffer: &mut Buffer,
     inputs: &mut I,
@@ -69,7 +69,7 @@ fn read_plain_samples<I: Inputs>(
     }
 }
 
-/// One row of samples as numbers, painted in row y.
+/// Reads one row of samples in decimal numbers into row `y` of the page.
 pub(crate) fn read_plain_samples_row<I: Inputs>(
     buffer: &mut Buffer,
     inputs: &mut I,
@@ -91,14 +91,14 @@ pub(crate) fn read_plain_samples_row<I: Inputs>(
     Ok(())
 }
 
-/// Whether each sample is two bytes.
+/// Whether each sample has two bytes.
 pub(crate) fn is_wide(maxval: u32) -> bool
     ensures { result ≡ is_wide maxval }
 {
     maxval > 255
 }
 
-/// The bytes of a row of samples.
+/// The number of bytes in a row of samples.
 pub(crate) fn row_bytes(channels: Channels, width: u32, maxval: u32) -> usize
     requires { width ≤ LONGEST_SIDE }
     ensures { result ≡ sample_bytes maxval (samples_in channels * width) }
@@ -111,7 +111,7 @@ pub(crate) fn row_bytes(channels: Channels, width: u32, maxval: u32) -> usize
     }
 }
 
-/// A sample of a row, where all are wide or none is.
+/// Sample `i` of a row, if each sample has two bytes (`wide`) or one.
 #[inline(always)]
 pub(crate) fn sample_at(row: &[u8], wide: bool, i: usize) -> u32
     requires { i < length (samples wide row.now) }
@@ -125,7 +125,7 @@ pub(crate) fn sample_at(row: &[u8], wide: bool, i: usize) -> u32
     }
 }
 
-/// The brightness of the pixel in a column of a row.
+/// The brightness of the pixel in column `x` of a row.
 #[inline(always)]
 fn brightness_at(row: &[u8], channels: Channels, wide: bool, x: usize) -> u32
     requires { samples_in channels * (x + 1) ≤ length (samples wide row.now) }
@@ -142,7 +142,7 @@ fn brightness_at(row: &[u8], channels: Channels, wide: bool, x: usize) -> u32
     }
 }
 
-/// The word of 64 pixels of a row whose samples have a byte each, from one column on.
+/// A word of the 64 pixels of a row that start in column `from`, if samples have one byte each.
 fn full_word(row: &[u8], from: usize, shading: &Shading) -> u64
     requires narrow { is_wide shading.now.maxval ≡ false }
     requires within { samples_in shading.now.channels * (from + 64) ≤ length row.now }
@@ -154,7 +154,7 @@ fn full_word(row: &[u8], from: usize, shading: &Shading) -> u64
     }
 }
 
-/// The word of so many pixels of a row, from one column on, pixel by pixel.
+/// A word of the `count` pixels of a row that start in column `from`, computed pixel by pixel.
 fn word_by_pixels(row: &[u8], from: usize, count: usize, shading: &Shading) -> u64
     requires { FitsWord (samples_in shading.now.channels) from count
         (length (samples (is_wide shading.now.maxval) row.now)) }
@@ -169,7 +169,7 @@ fn word_by_pixels(row: &[u8], from: usize, count: usize, shading: &Shading) -> u
     word_of(&pixels)
 }
 
-/// The word of so many pixels of a row, from one column on.
+/// A word of the `count` pixels of a row that start in column `from`.
 fn word(row: &[u8], from: usize, count: usize, shading: &Shading) -> u64
     requires { FitsWord (samples_in shading.now.channels) from count
         (length (samples (is_wide shading.now.maxval) row.now)) }
@@ -182,7 +182,7 @@ fn word(row: &[u8], from: usize, count: usize, shading: &Shading) -> u64
     }
 }
 
-/// Puts a row of samples into row y, word by word.
+/// Writes a row of samples to row `y` of the page, word by word.
 fn place_row(page: &mut Bitmap, y: u32, row: &[u8], shading: &Shading)
     requires row { y < page.old.height }
     requires whole { length row.now
@@ -200,7 +200,7 @@ fn place_row(page: &mut Bitmap, y: u32, row: &[u8], shading: &Shading)
     }
 }
 
-/// One row of samples as bytes, painted in row y, with room for its bytes.
+/// Reads one row of samples in bytes into row `y` of the page. `line` is a buffer for its bytes.
 pub(crate) fn read_raw_samples_row<I: Inputs>(
     buffer: &mut Buffer,
     inputs: &mut I,

@@ -9,9 +9,9 @@ use crate::channels::Channels;
 #[derive(Clone, Copy)]
 pub(crate) struct Shading {
     pub(crate) channels: Channels,
-    /// The sample that is white, from 1 to 65535.
+    /// The sample for white, from 1 to 65535.
     pub(crate) maxval: u32,
-    /// The greatest sum of the samples of a pixel that is black, at most that of a white one.
+    /// The greatest sum of the samples of a black pixel. It is at most the sum of a white pixel.
     pub(crate) limit: u32,
     pub(crate) invert: bool,
     ghost most: { maxval ≤ greatest_maxval },
@@ -21,7 +21,7 @@ pub(crate) struct Shading {
 impl Shading {
     ghost use Rattle.bitmap_input.specs.Inner.Shading.{is_black_at};
 
-    /// Whether a pixel of this brightness is black.
+    /// Whether a pixel with this brightness is black.
     #[inline(always)]
     pub(crate) fn black(&self, brightness: u32) -> bool
         ensures { result ≡ is_black_at self.now brightness }

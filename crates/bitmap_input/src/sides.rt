@@ -2,7 +2,7 @@
 ghost use Rattle.std.specs.Prelude.{◌≤◌};
 ghost use Rattle.pt_core.specs.declared.limits.TheConstants.{LONGEST_SIDE};
 
-/// The sides of a page in pixels, each from 1 to the longest one.
+/// The sides of a page in pixels, each from 1 to `LONGEST_SIDE`.
 #[derive(Clone, Copy)]
 pub(crate) struct Sides {
     pub(crate) width: u32,

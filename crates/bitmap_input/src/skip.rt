@@ -1,4 +1,4 @@
-//! Bytes that are passed over.
+//! Skipping bytes.
 ghost use Rattle.std.specs.Prelude.{◌≡◌, true};
 ghost use Rattle.bitmap_input.specs.Inner.Reading.{ReadsFrom, Any, Same};
 ghost use Rattle.bitmap_input.specs.PageParts.{block};
@@ -9,9 +9,9 @@ use crate::fault::InFault;
 use crate::stop::Stop;
 use pt_core::Inputs;
 
-/// Goes on behind n bytes, or behind all where there are fewer: how many were missing.
+/// Skips n bytes, or all bytes if the file ends before that, and returns how many were missing.
 ///
-/// No memory is taken for them.
+/// No memory is allocated for them.
 pub(crate) fn pass_over<I: Inputs>(buffer: &mut Buffer, inputs: &mut I, n: u32) -> Result<u32, Stop>
     requires { I.is_opened inputs.old ≡ true }
     ensures reads { ReadsFrom I.Inputs Same (passed_over n) buffer.old inputs.old result buffer.new
@@ -28,7 +28,7 @@ pub(crate) fn pass_over<I: Inputs>(buffer: &mut Buffer, inputs: &mut I, n: u32) 
     Ok(0)
 }
 
-/// Goes on behind n bytes.
+/// Skips n bytes. If the file ends before that, the page is truncated.
 pub(crate) fn skip_block<I: Inputs>(buffer: &mut Buffer, inputs: &mut I, n: u32) -> Result<(), Stop>
     requires { I.is_opened inputs.old ≡ true }
     ensures reads { ReadsFrom I.Inputs Any (block n) buffer.old inputs.old result buffer.new

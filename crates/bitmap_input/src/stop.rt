@@ -1,4 +1,4 @@
-//! Why the reading of a page stopped.
+//! Why reading a page stopped.
 ghost use Rattle.std.specs.Prelude.{◌≡◌};
 ghost use Rattle.bitmap_input.specs.declared.fault.InFault.TheVariants.{NoMemory as no_memory};
 ghost use Rattle.bitmap_input.specs.declared.stop.Stop.TheVariants.{Fault as fault};
@@ -7,12 +7,12 @@ use crate::fault::InFault;
 use pt_core::NoMemory;
 use std::alloc::AllocError;
 
-/// Why no page was read: there is none, or there is one that can't be read.
+/// Why no page was read: there is none, or it can't be read.
 #[derive(Clone, Copy)]
 pub(crate) enum Stop {
-    /// The file ends where a page may end.
+    /// The file ends, and no page is incomplete.
     End,
-    /// Bytes that begin no page follow the last one.
+    /// The bytes after the last page don't begin a page.
     Trailing,
     /// The page can't be read.
     Fault(InFault),

@@ -1,12 +1,12 @@
-//! Words of 64 pixels, the least significant bit the leftmost one.
+//! Words of 64 pixels. The least significant bit is the leftmost pixel.
 ghost use Rattle.std.specs.Prelude.{◌≡◌, ℕ, ◌+◌, ◌<◌, ◌≤◌, ◌&&◌, false, nat_lt, length, get_or};
 ghost use Rattle.bit_image.specs.Image.{differ};
 ghost use Rattle.bit_image.specs.Words.{is_one};
 
-/// A product with this has the lowest bits of eight bytes side by side in its highest byte.
+/// A factor that collects the lowest bits of eight bytes: they become the highest byte of the product.
 const GATHER: u64 = 0x0102040810204080;
 
-/// The byte of eight pixels from a place on.
+/// A byte of the eight pixels that start at index `at`.
 #[inline(always)]
 fn byte_at(pixels: &[bool], at: usize) -> u64
     requires { at + 8 ≤ length pixels.now }
@@ -25,9 +25,9 @@ fn byte_at(pixels: &[bool], at: usize) -> u64
     u64::from_le_bytes(eight).wrapping_mul(GATHER) >> 56
 }
 
-/// The word of 64 pixels.
+/// A word of 64 pixels.
 //
-// It stands alone: where it is inlined, the compiler turns its products into longer ones of vectors.
+// It isn't inlined: the compiler would turn its products into slower ones of vectors.
 #[inline(never)]
 pub(crate) fn word_of(pixels: &[bool; 64]) -> u64
     ensures { (k : ℕ) → k < 64 → is_one result k ≡ get_or pixels.now k false }
@@ -39,7 +39,7 @@ pub(crate) fn word_of(pixels: &[bool; 64]) -> u64
     word
 }
 
-/// The word with its pixels inverted or not.
+/// The word, with its pixels inverted or not.
 pub(crate) fn inverted(word: u64, invert: bool) -> u64
     ensures { (k : ℕ) → k < 64 → is_one result k ≡ differ invert (is_one word k) }
 {

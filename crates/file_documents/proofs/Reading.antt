@@ -18,7 +18,7 @@ use Rattle.bitmap_input.specs.FilePages.FilePages.{Next}
 use Rattle.bitmap_input.specs.Raw.{Raw}
 use Rattle.bitmap_input.specs.Reading.{AtEnd, cause_of_fault}
 use Rattle.bitmap_input.specs.Reader.{Reader, ahead as reader_ahead, is_later, GivesEnding, GivesPage, IfSays, MemoryFails, ReadFails, TellsPage}
-use Rattle.bitmap_input.proofs.Appending.{with_more}
+use Rattle.bitmap_input.proofs.AddedBytes.{with_more}
 use Rattle.bitmap_input.proofs.FrontStays.{front_stays, page_stays}
 use Rattle.bitmap_input.proofs.Behind.{ahead_with_more, begins_with_more, front_within}
 use Rattle.bitmap_input.proofs.Files.{file_pages_some}

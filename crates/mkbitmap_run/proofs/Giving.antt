@@ -7,8 +7,8 @@ use Rattle.bitmap_input.specs.Reading.{cause_of_fault}
 use Rattle.bitmap_input.specs.declared.fault.InFault.{InFault}
 use Rattle.bitmap_input.specs.declared.fault.InFault.TheVariants as fault
 use Rattle.bitmap_input.specs.GrayRows.{lowered}
-use Rattle.bitmap_input.proofs.GrayHeading.{gray_row_stays}
-use Rattle.bitmap_input.proofs.Telling.{move_on, stand}
+use Rattle.bitmap_input.proofs.GrayHeaders.{gray_row_stays}
+use Rattle.bitmap_input.proofs.ComposedSteps.{move_on, stand}
 use Rattle.mkbitmap.specs.Box.{Gray}
 use Rattle.mkbitmap.specs.Follows.{IsRow}
 use Rattle.mkbitmap_run.specs.PageHeader.{PageHeader}

@@ -18,7 +18,7 @@ use Rattle.bitmap_input.specs.Reading.Cause.{Says, Device, Memory}
 use Rattle.bitmap_input.specs.declared.gray_reader.GrayHead.{GrayHead}
 use Rattle.mkbitmap_run.specs.PageHeader.{PageHeader, page_header}
 use Rattle.bitmap_input.proofs.BmpLengths.{cuts_bind, cuts_take}
-use Rattle.bitmap_input.proofs.GrayHeading.{gray_header_stays}
+use Rattle.bitmap_input.proofs.GrayHeaders.{gray_header_stays}
 use Rattle.bitmap_input.proofs.Sided.{AreSidesInRange, IsHeaderSided, cuts_gray_header}
 use Rattle.run_output.specs.Messages.{file_line, program_line}
 use Rattle.run_output.specs.Names.{dash}

@@ -9,8 +9,8 @@ use Rattle.bitmap_input.specs.FaultText.{kind_text}
 use Rattle.bitmap_input.specs.GrayReader.{FailsToRead, GraySource, Refuses}
 use Rattle.mkbitmap_run.specs.PageHeader.{PageHeader, page_header}
 use Rattle.bitmap_input.specs.Reading.Cause.{Says, Device}
-use Rattle.bitmap_input.proofs.GrayHeading.{gray_row_stays}
-use Rattle.bitmap_input.proofs.Telling.{not_true}
+use Rattle.bitmap_input.proofs.GrayHeaders.{gray_row_stays}
+use Rattle.bitmap_input.proofs.ComposedSteps.{not_true}
 use Rattle.run_output.specs.Messages.{file_line}
 use Rattle.run_output.specs.Names.{dash}
 use Rattle.run_output.specs.Told.{BrokeOff, IsMessage, Sinks, Source}

@@ -4,8 +4,8 @@ use Rattle.std.proofs.lemmas.List.{append-nil}
 use Rattle.bitmap_input.specs.Cut.{Cut, is_by_end}
 use Rattle.bitmap_input.specs.Cut.Cut.{Takes, Stops}
 use Rattle.bitmap_input.specs.Reading.{AreNeeded}
-use Rattle.bitmap_input.proofs.Appending.{Stays, with_more}
-use Rattle.bitmap_input.proofs.Telling.{not_true}
+use Rattle.bitmap_input.proofs.AddedBytes.{Stays, with_more}
+use Rattle.bitmap_input.proofs.ComposedSteps.{not_true}
 use Rattle.mkbitmap_run.specs.Rows.{LeavesRows, ReachesNear, row_before, settled_before, settled_rows, standing}
 
 none_more : {A : Type 0} (cut : Cut A) → with_more [] cut ≡ cut

@@ -1,4 +1,4 @@
--- The bytes of a BMP header in the program, and what it makes of them.
+-- The bytes of a BMP header in the program, and what the program takes from them.
 use Rattle.std.specs.Prelude.{◌≡◌, ℕ, ◌+◌, ◌-◌, ◌^◌, ◌≤◌, ◌<◌, true, false, Bool, List, length, slice_index_or, suc, ◌*◌, ◌/◌, reverse, if◌then◌else◌, Option, Some, None, Result, Ok, Err}
 use Rattle.bitmap_input.specs.Cut.{FileEnd, Cut, ◌>>=◌}
 use Rattle.bitmap_input.specs.Cut.Cut.{Takes, Stops}
@@ -33,7 +33,7 @@ pub record IsWholeHeader (head : List ℕ) : Type 0 where
   pub reach : length head ≡ 12 + header_size head + mask_bytes head
   pub known : is_known_size (header_size head) ≡ true
 
--- the fields up to the end of the header without its masks are there
+-- the bytes contain all fields of the header without its masks
 pub record HasInfo (head : List ℕ) : Type 0 where
   pub within : 12 + header_size head ≤ length head
   pub least : 12 ≤ header_size head
@@ -46,17 +46,17 @@ field_number head field.None = 0
 field_number head (field.Two place) = two_at head place
 field_number head (field.Four place) = four_at head place
 
--- the number that the oldest header has at one field, and the later ones at another
+-- the number in one field of the oldest header, or in another field of a later one
 abbrev pub number_by_age : List ℕ → Field → Field → ℕ
 number_by_age head oldest later = if is_short head then field_number head oldest else field_number head later
 
--- the field stands behind the magic, within so many bytes of it
+-- the field begins after the magic number and ends within `room` bytes after it
 abbrev pub StandsWithin : Field → ℕ → Type 0
 StandsWithin field.None room = Unit {0}
 StandsWithin (field.Two place) room = (2 ≤ place) × (place ≤ room)
 StandsWithin (field.Four place) room = (2 ≤ place) × (place + 2 ≤ room)
 
--- the bits of a pixel
+-- the number of bits of a pixel
 abbrev pub bits_in : Depth → ℕ
 bits_in depth.One = 1
 bits_in depth.Four = 4
@@ -64,22 +64,22 @@ bits_in depth.Eight = 8
 bits_in depth.TwentyFour = 24
 bits_in depth.ThirtyTwo = 32
 
--- the depth of pixels of so many bits, stored in this way, or none where they aren't read
+-- the depth of pixels with this many bits and this compression, or none if they can't be read
 abbrev pub IsKnownDepth : ℕ → ℕ → Option Depth → Type 0
 IsKnownDepth bits compression (Some d) = (is_known_depth bits compression ≡ true) × (bits ≡ bits_in d)
 IsKnownDepth bits compression None = is_known_depth bits compression ≡ false
 
--- pixels of this depth are numbers of so many colours, or are colours themselves
+-- how many colours pixels of this depth can number, or none if they are colours themselves
 abbrev pub IsMostColors : Depth → Option ℕ → Type 0
 IsMostColors d (Some n) = (bits_in d ≤ 8) × (n ≡ 2 ^ bits_in d) × (n ≤ 256)
 IsMostColors d None = 8 < bits_in d
 
--- the pixels of the header have this depth, or are of a kind that isn't read
+-- the depth of the header's pixels, or none if they are of a kind that can't be read
 abbrev pub IsDepth : List ℕ → Option Depth → Type 0
 IsDepth head (Some d) = (is_known_kind head ≡ true) × (bits head ≡ bits_in d)
 IsDepth head None = is_known_kind head ≡ false
 
--- what the program keeps of a header
+-- what the program takes from a header
 pub record IsHeader (h : Header) (head : List ℕ) : Type 0 where
   pub width : width head ≡ h.sides.width
   pub height : height head ≡ h.sides.height
@@ -91,17 +91,17 @@ pub record IsHeader (h : Header) (head : List ℕ) : Type 0 where
   pub pixel_offset : pixel_offset head ≡ h.pixel_offset
   pub file_size : file_size head ≡ h.file_size
 
--- a check that takes no bytes answers so, whatever the bytes
+-- the result of a check that takes no bytes, for any bytes
 abbrev pub Passes : {X A : Type 0} → (X → A → Type 0) → (List ℕ → Cut A) → Result X Stop → Type 0
 Passes {A = A} is part (Ok x) = (a : A) × is x a × ((bytes : List ℕ) → part bytes ≡ Takes false a bytes)
 Passes is part (Err s) = (ending : FileEnd) × (cause_of s ≡ Says ending) × ((bytes : List ℕ) → part bytes ≡ Stops false ending)
 
--- a table of what colours of a palette are black, whatever their number
+-- a table that says which colours of a palette are black, for any number
 abbrev pub IsPaletteTable : ℕ → Bool → (ℕ → Entry) → List Bool → Type 0
 IsPaletteTable level invert color table =
     (i : ℕ) → slice_index_or table i (black level invert (Color 0 0 0)) ≡ black level invert (color i)
 
--- whether the pixel in column x of a row is black, by a table of the palette
+-- whether the pixel in column x of a row is black, given a table of the palette
 abbrev pub shade_in : Depth → ℕ → Bool → List Bool → List ℕ → ℕ → Bool
 shade_in depth.One level invert table row x = slice_index_or table (bit_at row x) (black level invert (Color 0 0 0))
 shade_in depth.Four level invert table row x = slice_index_or table (half_at row x) (black level invert (Color 0 0 0))
@@ -110,22 +110,22 @@ shade_in depth.Eight level invert table row x =
 shade_in depth.TwentyFour level invert table row x = black level invert (color_at row (3 * x))
 shade_in depth.ThirtyTwo level invert table row x = black level invert (color_at row (4 * x))
 
--- the same of what the program keeps of it
+-- whether the pixel in column x of a row is black, by the program's description of a row
 abbrev pub shade_by : Ink → List ℕ → ℕ → Bool
 shade_by i row x = shade_in i.depth i.tone.level i.tone.invert i.table.now row x
 
--- the row of the page that the picture's row of this number is: they come from the top, or from below
+-- the row of the page for row i of the picture, which is stored from the top or from the bottom
 abbrev pub row_place : Bool → ℕ → ℕ → ℕ
 row_place true height i = height - suc i
 row_place false height i = i
 
--- What follows a header, by what the program keeps of it.
+-- What follows a header, by the program's description of the header.
 
--- the bytes of a row, which are filled up to four
+-- the number of bytes of a row, which is padded to a multiple of four
 abbrev pub row_bytes_by : Header → ℕ
 row_bytes_by h = 4 * ((h.sides.width * bits_in h.depth + 31) / 32)
 
--- the raw page of these rows, as the file holds them
+-- the raw page with these rows, as the file holds them
 abbrev pub picture_by : Header → List (List Entry) → Raw
 picture_by h rows = record {
   width = h.sides.width;
@@ -140,7 +140,7 @@ pixels_by h color bytes =
     repeated (color_row (row_bytes_by h) (bits_in h.depth) color h.sides.width) h.sides.height bytes >>= λ rows rest.
     Takes false (picture_by h rows) rest
 
--- all of it
+-- the palette, ignored bytes, and the rows
 abbrev pub raster_by : Header → List ℕ → Cut Raw
 raster_by h bytes =
     block (h.color_bytes * h.palette_length) bytes >>= λ palette rest. block h.before_pixels rest >>= λ _ rest.

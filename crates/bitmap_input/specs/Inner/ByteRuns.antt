@@ -6,7 +6,7 @@ use Rattle.bitmap_input.specs.PageParts.{run_length, gap_length, is_space, is_di
 use Rattle.bitmap_input.specs.declared.run.Run.{Run}
 use Rattle.bitmap_input.specs.declared.run.Run.TheVariants.{Space, Gap, Comment}
 
--- how many bytes of the run stand at the front
+-- how many bytes of the run there are at the beginning
 abbrev pub run_size : Run → List ℕ → ℕ
 run_size Space bytes = run_length is_space bytes
 run_size Gap bytes = gap_length false bytes
@@ -16,20 +16,20 @@ run_size Comment bytes = gap_length true bytes
 abbrev pub run_part : Run → List ℕ → Cut (List ℕ)
 run_part run bytes = run_of (run_size run bytes) bytes
 
--- the run goes on behind the byte, or ends before it
+-- the run goes on after the byte, or ends before it
 abbrev pub Continues : Run → ℕ → Option Run → Type 0
 Continues run b (Some next) = (bs : List ℕ) → run_size run (b ∷ bs) ≡ suc (run_size next bs)
 Continues run b None = (bs : List ℕ) → run_size run (b ∷ bs) ≡ 0
 
--- the digits at the front, as many as there are, and the number that they stand for
+-- the digits at the beginning, and the number that they form
 abbrev pub digits : List ℕ → Cut ℕ
 digits bytes = run_of (run_length is_digit bytes) bytes >>= λ ds rest. Takes false (value 0 ds) rest
 
--- the number, or this where it is less: a number that is too large for a side, for the sample for white
--- or for a sample of a black pixel may be cut here
+-- the greatest number that isn't capped: a greater one is too large for a side, for the sample for
+-- white and for a black sample
 abbrev pub cap : ℕ
 cap = 200000
 
--- the number, cut where it is larger
+-- the number, capped
 abbrev pub IsCapped : ℕ → ℕ → Type 0
 IsCapped x a = x ≡ min a cap

@@ -1,4 +1,4 @@
--- The causes by which pages end and none is refused.
+-- The causes with which pages end without a refusal.
 use Rattle.bitmap_input.specs.Cut.FileEnd.{End, Trailing, Refused}
 use Rattle.bitmap_input.specs.Reading.{Cause}
 use Rattle.bitmap_input.specs.Reading.Cause.{Says, Device, Memory}

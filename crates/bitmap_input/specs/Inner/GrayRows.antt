@@ -6,7 +6,7 @@ use Rattle.bitmap_input.specs.Inner.Reading.{cause_of}
 use Rattle.bitmap_input.specs.Reading.Cause.{Says}
 use Rattle.bitmap_input.specs.declared.stop.Stop.{Stop}
 
--- the format is that of a gray page, plain or not, or it isn't
+-- the result says whether the gray page is plain, or that the format isn't that of a gray page
 abbrev pub ChecksKind : (List ℕ → Cut Bool) → Result Bool Stop → Type 0
 ChecksKind kind (Ok plain) = (bytes : List ℕ) → kind bytes ≡ Takes false plain bytes
 ChecksKind kind (Err stop) =

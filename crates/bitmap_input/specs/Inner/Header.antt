@@ -13,7 +13,7 @@ use Rattle.bitmap_input.specs.declared.header.Format.{Format}
 use Rattle.bitmap_input.specs.declared.header.Format.TheVariants as format
 use Rattle.bitmap_input.specs.declared.sides.Sides.{Sides}
 
--- the format that a magic names
+-- the format that a magic number names
 abbrev pub magic_of : Format → Magic
 magic_of format.PlainBits = PlainBits
 magic_of format.RawBits = RawBits
@@ -21,12 +21,12 @@ magic_of (format.PlainSamples c) = PlainSamples c
 magic_of (format.RawSamples c) = RawSamples c
 magic_of format.Picture = Picture
 
--- the magic of a page of samples, plain or raw
+-- the magic number of a page of samples, plain or raw
 abbrev pub samples_magic : Bool → Channels → Magic
 samples_magic true c = PlainSamples c
 samples_magic false c = RawSamples c
 
--- the magic names this format
+-- the magic number names this format
 abbrev pub IsFormat : Format → Magic → Type 0
 IsFormat x a = a ≡ magic_of x
 
@@ -34,8 +34,8 @@ IsFormat x a = a ≡ magic_of x
 abbrev pub IsSides : Sides → ℕ × ℕ → Type 0
 IsSides x a = (a.0 ≡ x.width) × (a.1 ≡ x.height)
 
--- two numbers of a header, each maybe cut where it is too large, are the sides of a page or not, as
--- the numbers themselves are
+-- two numbers of a header, each possibly capped, are the sides of a page exactly if the uncapped
+-- numbers are
 abbrev pub Checks : ℕ → ℕ → Result Sides Stop → Type 0
 Checks x y (Ok s) =
     (width height : ℕ) → IsCapped x width → IsCapped y height →
@@ -44,8 +44,8 @@ Checks x y (Err stop) =
     (width height : ℕ) → IsCapped x width → IsCapped y height →
     (ending : FileEnd) × (cause_of stop ≡ Says ending) × ((bytes : List ℕ) → checked width height bytes ≡ Stops false ending)
 
--- a number of a header, maybe cut where it is too large, is the sample for white of a page or not, as
--- the number itself is
+-- a number of a header, possibly capped, is in range for a sample for white exactly if the uncapped number
+-- is in range
 abbrev pub ChecksMaxval : ℕ → Result ℕ Stop → Type 0
 ChecksMaxval x (Ok maxval) =
     (n : ℕ) → IsCapped x n → (n ≡ maxval) × ((bytes : List ℕ) → checked_maxval n bytes ≡ Takes false n bytes)

@@ -13,7 +13,7 @@ use Rattle.bitmap_input.specs.declared.shading.Shading.{Shading}
 use Rattle.bitmap_input.specs.declared.raster.Raster.{Raster}
 use Rattle.bitmap_input.specs.declared.raster.Raster.TheVariants.{PlainBits, RawBits, PlainSamples, RawSamples}
 
--- a pixel or a sample is written as characters
+-- pixels or samples are written as characters
 abbrev pub is_plain : Raster → Bool
 is_plain (PlainBits invert) = true
 is_plain (RawBits invert) = false
@@ -25,21 +25,21 @@ abbrev pub samples_raster : Bool → Shading → Raster
 samples_raster true s = PlainSamples s
 samples_raster false s = RawSamples s
 
--- what is stored of a pixel
+-- what is stored for a pixel
 abbrev pub StoredPixel : Raster → Type 0
 StoredPixel (PlainBits invert) = Bool
 StoredPixel (RawBits invert) = Bool
 StoredPixel (PlainSamples s) = PixelSamples s.channels
 StoredPixel (RawSamples s) = PixelSamples s.channels
 
--- a row of so many pixels
+-- a row of `width` pixels
 abbrev pub row_stored : (r : Raster) → ℕ → List ℕ → Cut (List (StoredPixel r))
 row_stored (PlainBits invert) width = repeated plain_pixel width
 row_stored (RawBits invert) width = raw_row width
 row_stored (PlainSamples s) width = repeated (plain_samples s.channels) width
 row_stored (RawSamples s) width = raw_samples_row s.channels s.maxval width
 
--- the entry that a pixel stands for
+-- the entry of a pixel
 abbrev pub pixel_entry : (r : Raster) → StoredPixel r → Entry
 pixel_entry (PlainBits invert) b = Bit b
 pixel_entry (RawBits invert) b = Bit b
@@ -53,18 +53,18 @@ is_black_pixel (RawBits invert) b = differ invert b
 is_black_pixel (PlainSamples s) a = black_of s a
 is_black_pixel (RawSamples s) a = black_of s a
 
--- the sides and the rows behind them, as what follows a magic
+-- the sides and the rows, which follow the magic number of a page of bits
 abbrev pub sides_and_rows : Raster → List ℕ → Cut Raw
 sides_and_rows r bytes =
     sides bytes >>= λ s rest. header_end (is_plain r) rest >>= λ _ rest. rows_raster (pixel_entry r) (row_stored r s.0) s.0 s.1 rest
 
--- the bytes of a row, where each row has as many
+-- the number of bytes of a row, if it is the same for all rows; otherwise 0
 abbrev pub line_bytes : Raster → ℕ → ℕ
 line_bytes (PlainBits invert) width = 0
 line_bytes (RawBits invert) width = row_bytes width
 line_bytes (PlainSamples s) width = 0
 line_bytes (RawSamples s) width = sample_bytes s.maxval (samples_in s.channels * width)
 
--- the pixels that are black are those at this level, inverted or not
+-- a pixel is black exactly if it is black at this level, inverted or not
 abbrev pub IsAtLevel : ℕ → Bool → Raster → Type 0
 IsAtLevel level invert r = (a : StoredPixel r) → black level invert (pixel_entry r a) ≡ is_black_pixel r a

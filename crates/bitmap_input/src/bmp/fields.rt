@@ -1,11 +1,11 @@
-//! Fields of the header of a BMP picture.
+//! The fields of a BMP picture's header.
 ghost use Rattle.std.specs.Prelude.{◌≡◌, ◌≤◌, true, not, ◌||◌, ◌^◌, nat_le, length};
 ghost use Rattle.bitmap_input.specs.BmpHeader.{is_short, planes, bits, compression, colors_used, is_known_size, stated_width, stated_height, width, height, is_top_down, mask_bytes, has_masks, has_known_masks, has_known_colors, has_palette, palette_length, color_bytes, palette_end};
 ghost use Rattle.bitmap_input.specs.Inner.BmpHead.{field_number, number_by_age, StandsWithin, IsKnownDepth, IsDepth, IsMostColors, bits_in};
 
 use crate::bmp::info::Info;
 
-/// How many bits a pixel has.
+/// The number of bits of a pixel.
 #[derive(Clone, Copy)]
 pub(crate) enum Depth {
     One,
@@ -16,7 +16,7 @@ pub(crate) enum Depth {
 }
 
 impl Depth {
-    /// How many bits these are.
+    /// The number of bits.
     pub(crate) fn bits(self) -> u32
         ensures value { result ≡ bits_in self }
         ensures most { result ≤ 32 }
@@ -31,27 +31,27 @@ impl Depth {
     }
 }
 
-/// Whether a header of this size is read.
+/// Whether headers of this size can be read.
 pub(crate) fn is_known_size(size: u32) -> bool
     ensures { result ≡ is_known_size size }
 {
     size == 12 || size == 40 || size == 52 || size == 56 || size == 108 || size == 124
 }
 
-/// The oldest header, whose numbers have two bytes.
+/// Whether this is the oldest header, which has numbers of two bytes.
 pub(crate) fn is_short(info: &Info) -> bool
     ensures { result ≡ is_short info.now.head.now }
 {
     info.head.four_at(14) == 12
 }
 
-/// A number of the header, or 0 where a header has none.
+/// A field of the header. `None` means that the header doesn't have it, and its number is 0.
 #[derive(Clone, Copy)]
 enum Field {
     None,
-    /// Two bytes from a place on.
+    /// Two bytes, at this offset from the picture's first byte.
     Two(usize),
-    /// Four bytes from a place on.
+    /// Four bytes, at this offset from the picture's first byte.
     Four(usize),
 }
 
@@ -66,7 +66,7 @@ fn field_number(info: &Info, field: Field) -> u32
     }
 }
 
-/// The number that the oldest header has at one field, and the later ones at another.
+/// The number in field `oldest` of the oldest header, or in field `later` of a later one.
 fn number_by_age(info: &Info, oldest: Field, later: Field) -> u32
     requires oldest { StandsWithin oldest 24 }
     requires later { StandsWithin later 52 }
@@ -79,21 +79,21 @@ fn number_by_age(info: &Info, oldest: Field, later: Field) -> u32
     }
 }
 
-/// How the pixels are stored: plainly where this is 0, and with masks where it is 3.
+/// How the pixels are stored: 0 means uncompressed, 3 uncompressed with colour masks.
 pub(crate) fn compression(info: &Info) -> u32
     ensures { result ≡ compression info.now.head.now }
 {
     number_by_age(info, Field::None, Field::Four(30))
 }
 
-/// How many colours the palette has, where this isn't 0.
+/// The number of colours in the palette. 0 means as many as the pixels can number.
 pub(crate) fn colors_used(info: &Info) -> u32
     ensures { result ≡ colors_used info.now.head.now }
 {
     number_by_age(info, Field::None, Field::Four(46))
 }
 
-/// The depth of pixels of so many bits, plainly stored or with masks.
+/// The depth of pixels with this many bits and this compression, if such pixels can be read.
 fn known_depth(bits: u32, compression: u32) -> Option<Depth>
     ensures { IsKnownDepth bits compression result }
 {
@@ -113,7 +113,7 @@ fn known_depth(bits: u32, compression: u32) -> Option<Depth>
     }
 }
 
-/// The depth of the pixels, where they are of a kind that is read.
+/// The depth of the pixels, if such pixels can be read.
 pub(crate) fn pixel_depth(info: &Info) -> Option<Depth>
     ensures { IsDepth info.now.head.now result }
 {
@@ -133,7 +133,7 @@ fn stated_height(info: &Info) -> u32
 /// The sign bit of a number of four bytes.
 const SIGN: u32 = 2147483648;
 
-/// The width in pixels, or 0 where it is negative.
+/// The width in pixels. It is 0 if the header gives a negative width.
 pub(crate) fn width(info: &Info) -> u32
     ensures { result ≡ width info.now.head.now }
 {
@@ -153,14 +153,14 @@ pub(crate) fn height(info: &Info) -> u32
     }
 }
 
-/// Whether the top row comes first, and not the lowest one.
+/// Whether the first row is the top row. If not, it is the lowest one.
 pub(crate) fn is_top_down(info: &Info) -> bool
     ensures { result ≡ is_top_down info.now.head.now }
 {
     stated_height(info) >= SIGN
 }
 
-/// The bytes of the masks behind the header.
+/// The number of bytes of the masks that follow the header.
 pub(crate) fn mask_bytes(info: &Info) -> u32
     ensures value { result ≡ mask_bytes info.now.head.now }
     ensures most { result ≤ 12 }
@@ -172,7 +172,7 @@ pub(crate) fn mask_bytes(info: &Info) -> u32
     }
 }
 
-/// The masks of red, green and blue are those of a pixel without masks.
+/// Whether the masks of red, green and blue are those of a pixel without masks.
 fn has_known_masks(info: &Info) -> bool
     requires { 64 ≤ length info.now.head.now }
     ensures { result ≡ has_known_masks info.now.head.now }
@@ -182,7 +182,7 @@ fn has_known_masks(info: &Info) -> bool
         && info.head.four_at(62) == 0x000000ff
 }
 
-/// How many colours pixels of this depth can number, where they are numbers of colours.
+/// How many colours pixels of this depth can number, if the picture has a palette.
 fn most_colors(depth: Depth) -> Option<u32>
     ensures { IsMostColors depth result }
 {
@@ -194,7 +194,7 @@ fn most_colors(depth: Depth) -> Option<u32>
     }
 }
 
-/// No more colours are used than the pixels can number.
+/// Whether the palette has no more colours than the pixels can number.
 fn has_known_palette(info: &Info, depth: Depth) -> bool
     requires kind { bits info.now.head.now ≡ bits_in depth }
     ensures { result ≡ (not (has_palette info.now.head.now) || nat_le (colors_used
@@ -207,7 +207,7 @@ fn has_known_palette(info: &Info, depth: Depth) -> bool
     }
 }
 
-/// Whether the masks are read, and no more colours are used than the pixels can number.
+/// Whether the masks can be read, and the palette has no more colours than the pixels can number.
 pub(crate) fn has_known_colors(info: &Info, depth: Depth) -> bool
     requires masked { has_masks info.now.head.now ≡ true → 64 ≤ length info.now.head.now }
     requires kind { bits info.now.head.now ≡ bits_in depth }
@@ -216,7 +216,7 @@ pub(crate) fn has_known_colors(info: &Info, depth: Depth) -> bool
     (compression(info) != 3 || has_known_masks(info)) && has_known_palette(info, depth)
 }
 
-/// The bytes of a colour of the palette.
+/// The number of bytes of a colour in the palette.
 pub(crate) fn color_bytes(info: &Info) -> u32
     ensures value { result ≡ color_bytes info.now.head.now }
     ensures least { 3 ≤ result }
@@ -225,7 +225,7 @@ pub(crate) fn color_bytes(info: &Info) -> u32
     if is_short(info) { 3 } else { 4 }
 }
 
-/// The colours of the palette.
+/// The number of colours in the palette.
 pub(crate) fn palette_length(info: &Info, depth: Depth) -> u32
     requires kind { bits info.now.head.now ≡ bits_in depth }
     requires colors { has_known_colors info.now.head.now ≡ true }
@@ -241,7 +241,7 @@ pub(crate) fn palette_length(info: &Info, depth: Depth) -> u32
     }
 }
 
-/// The place behind the header, its masks and its palette.
+/// The offset of the first byte after the header, its masks and its palette.
 pub(crate) fn palette_end(info: &Info, depth: Depth) -> u32
     requires kind { bits info.now.head.now ≡ bits_in depth }
     requires colors { has_known_colors info.now.head.now ≡ true }

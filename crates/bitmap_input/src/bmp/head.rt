@@ -1,4 +1,4 @@
-//! The first bytes of a BMP picture, behind its magic.
+//! The first bytes of a BMP picture, after its magic number.
 ghost use Rattle.std.specs.Prelude.{◌≡◌, ℕ, ◌+◌, ◌-◌, ◌<◌, ◌≤◌, true, false, length, take, [], ◌++◌, OnOk};
 ghost use Rattle.bitmap_input.specs.Inner.Reading.{ReadsFrom};
 ghost use Rattle.bitmap_input.specs.PageParts.{block};
@@ -10,10 +10,10 @@ use crate::stop::Stop;
 use pt_core::Inputs;
 use std::marker::Model;
 
-/// The most bytes of a header behind its magic.
+/// The greatest number of bytes of a header after its magic number.
 const ROOM: usize = 136;
 
-/// The bytes of a header that were read so far. Places count from the magic's first byte.
+/// The bytes of a header that have been read. Offsets are counted from the first byte of the magic number.
 #[derive(Drop)]
 pub(crate) struct Head {
     bytes: [u8; ROOM],
@@ -30,7 +30,7 @@ impl Model for Head {
     ghost invariant = { λ h. h.len ≤ 136 };
 }
 
-/// Fills the bytes between two places.
+/// Fills the bytes between two indices.
 fn read_into<I: Inputs>(
     buffer: &mut Buffer,
     inputs: &mut I,
@@ -49,7 +49,7 @@ fn read_into<I: Inputs>(
 }
 
 impl Head {
-    /// None of a header's bytes.
+    /// An empty header.
     pub(crate) fn new() -> Head
         ensures { result ≡ [] }
     {
@@ -78,7 +78,7 @@ impl Head {
         Ok(())
     }
 
-    /// The number of two bytes from a place on.
+    /// The number in the two bytes at this offset.
     pub(crate) fn two_at(&self, place: usize) -> u32
         requires behind_magic { 2 ≤ place }
         requires within { place ≤ length self.now }
@@ -88,7 +88,7 @@ impl Head {
         self.bytes[place - 2] as u32 + 256 * self.bytes[place - 1] as u32
     }
 
-    /// The number of four bytes from a place on.
+    /// The number in the four bytes at this offset.
     #[tactic(auto, unfolding(crate::specs::BmpHeader::four_at))]
     pub(crate) fn four_at(&self, place: usize) -> u32
         requires behind_magic { 2 ≤ place }

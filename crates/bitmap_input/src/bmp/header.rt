@@ -19,7 +19,7 @@ use crate::number::CAP;
 use crate::stop::Stop;
 use pt_core::Inputs;
 
-/// The header up to its size, which is a known one.
+/// Reads the header up to its size, and checks the size.
 fn read_start<I: Inputs>(buffer: &mut Buffer, inputs: &mut I, head: &mut Head) -> Result<(), Stop>
     requires opened { I.is_opened inputs.old ≡ true }
     requires none { head.old ≡ [] }
@@ -35,7 +35,7 @@ fn read_start<I: Inputs>(buffer: &mut Buffer, inputs: &mut I, head: &mut Head) -
     }
 }
 
-/// The rest of the header, of a kind that is read.
+/// Reads the rest of the header, and checks the kind of the pixels.
 fn read_info<I: Inputs>(buffer: &mut Buffer, inputs: &mut I, head: &mut Head) -> Result<Depth, Stop>
     requires opened { I.is_opened inputs.old ≡ true }
     requires begun { IsHeaderStart head.old }
@@ -53,7 +53,7 @@ fn read_info<I: Inputs>(buffer: &mut Buffer, inputs: &mut I, head: &mut Head) ->
     }
 }
 
-/// The masks, where they stand behind the header.
+/// Reads the masks that follow the header, if there are any, and checks the colours.
 fn read_masks<I: Inputs>(
     buffer: &mut Buffer,
     inputs: &mut I,
@@ -80,8 +80,7 @@ fn read_masks<I: Inputs>(
     }
 }
 
-/// What the program keeps of a header, where its sides are in range and its pixels begin behind all
-/// that stands before them.
+/// The description of a picture, if its sides are in range and its pixels begin after its palette.
 fn describe(info: &Info, depth: Depth) -> Result<Header, Stop>
     requires kind { bits info.now.head.now ≡ bits_in depth }
     requires colors { has_known_colors info.now.head.now ≡ true }
@@ -105,7 +104,7 @@ fn describe(info: &Info, depth: Depth) -> Result<Header, Stop>
     })
 }
 
-/// The header with its masks.
+/// Reads the header and its masks.
 pub(crate) fn read_header<I: Inputs>(buffer: &mut Buffer, inputs: &mut I) -> Result<Header, Stop>
     requires { I.is_opened inputs.old ≡ true }
     ensures reads { ReadsFrom I.Inputs IsHeader header buffer.old inputs.old result buffer.new

@@ -1,4 +1,4 @@
-//! What is black in a row of a BMP picture.
+//! Which pixels of a BMP picture's row are black.
 ghost use Rattle.std.specs.Prelude.{◌≡◌, length};
 
 use crate::bmp::fields::Depth;
@@ -8,9 +8,9 @@ use crate::tone::Tone;
 #[derive(Clone, Copy)]
 pub(crate) struct Ink<'a> {
     pub(crate) depth: Depth,
-    /// By it a colour is black or not.
+    /// Says which colours are black.
     pub(crate) tone: Tone,
-    /// Which colours of the palette are black.
+    /// Says which colours of the palette are black.
     pub(crate) table: &'a [bool; 256],
     ghost whole: { length table.now ≡ 256 },
 }

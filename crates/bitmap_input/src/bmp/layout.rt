@@ -1,4 +1,4 @@
-//! How a BMP picture is laid out.
+//! The layout of a BMP picture.
 ghost use Rattle.std.specs.Prelude.{◌≤◌};
 
 use crate::bmp::fields::Depth;
@@ -8,18 +8,18 @@ use crate::sides::Sides;
 #[derive(Clone, Copy)]
 pub(crate) struct Header {
     pub(crate) sides: Sides,
-    /// The top row comes first, and not the lowest one.
+    /// Whether the first row is the top row. If not, it is the lowest one.
     pub(crate) top_down: bool,
     pub(crate) depth: Depth,
-    /// The bytes of a colour in the palette, 3 or 4.
+    /// The number of bytes of a colour in the palette, 3 or 4.
     pub(crate) color_bytes: u32,
-    /// The colours of the palette, at most 256.
+    /// The number of colours in the palette, at most 256.
     pub(crate) palette_length: u32,
-    /// The bytes between the palette and the first row.
+    /// The number of bytes between the palette and the first row.
     pub(crate) before_pixels: u32,
-    /// The place of the first row, from the picture's first byte on.
+    /// The offset of the first row from the picture's first byte.
     pub(crate) pixel_offset: u32,
-    /// How long the picture says that it is.
+    /// The file size that the header states.
     pub(crate) file_size: u32,
     ghost three_or_four: { (3 ≤ color_bytes) × (color_bytes ≤ 4) },
     ghost few: { palette_length ≤ 256 },

@@ -13,7 +13,7 @@ use crate::stop::Stop;
 use crate::tone::Tone;
 use pt_core::Inputs;
 
-/// Whether a colour of a palette is a black pixel.
+/// Whether colour `i` of a palette is black. Colours beyond the palette are the colour black.
 fn is_black(tone: &Tone, colors: u32, size: u32, palette: &[u8], i: u32) -> bool
     requires few { colors ≤ 256 }
     requires some { 3 ≤ size }
@@ -29,9 +29,9 @@ fn is_black(tone: &Tone, colors: u32, size: u32, palette: &[u8], i: u32) -> bool
     }
 }
 
-/// Fills the table of which colours of a palette are black pixels.
+/// Fills the table that says which colours of a palette are black.
 //
-// It is one of bools and not of bits: one load and no shift a pixel.
+// The table has bools instead of bits, so that a pixel takes one load and no shift.
 fn fill_table(tone: &Tone, colors: u32, size: u32, palette: &[u8], table: &mut [bool; 256])
     requires few { colors ≤ 256 }
     requires some { 3 ≤ size }
@@ -45,7 +45,7 @@ fn fill_table(tone: &Tone, colors: u32, size: u32, palette: &[u8], table: &mut [
     }
 }
 
-/// Reads the palette into its room, and the table of it.
+/// Reads the palette into a buffer, and fills its table.
 fn read_colors<I: Inputs>(
     buffer: &mut Buffer,
     inputs: &mut I,
@@ -72,10 +72,10 @@ fn read_colors<I: Inputs>(
     Ok(())
 }
 
-/// The most bytes of a palette.
+/// The greatest number of bytes of a palette.
 const ROOM: usize = 1024;
 
-/// Reads the palette into a table of which of its colours are black pixels.
+/// Reads the palette, and fills the table that says which of its colours are black.
 pub(crate) fn read_palette<I: Inputs>(
     buffer: &mut Buffer,
     inputs: &mut I,

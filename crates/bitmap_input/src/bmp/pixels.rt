@@ -23,7 +23,7 @@ use crate::words::{inverted, word_of};
 use bit_image::Bitmap;
 use pt_core::{Inputs, LONGEST_SIDE};
 
-/// A bit of a row, the most significant one of each byte first.
+/// Bit `x` of a row. The most significant bit of each byte comes first.
 fn bit(row: &[u8], x: usize) -> usize
     requires { x < 8 * length row.now }
     ensures value { result ≡ bit_at row.now x }
@@ -32,7 +32,7 @@ fn bit(row: &[u8], x: usize) -> usize
     (row[x / 8] as usize >> (7 - x % 8)) % 2
 }
 
-/// A number of four bits, the high half of each byte first.
+/// The number in four bits of a row. The upper half of each byte comes first.
 fn half(row: &[u8], x: usize) -> usize
     requires { x < 2 * length row.now }
     ensures value { result ≡ half_at row.now x }
@@ -42,7 +42,7 @@ fn half(row: &[u8], x: usize) -> usize
     if x % 2 == 0 { byte / 16 } else { byte % 16 }
 }
 
-/// Whether the pixel in column x of a row is black.
+/// Whether the pixel in column `x` of a row is black.
 #[inline(always)]
 fn shade(ink: &Ink, row: &[u8], x: usize) -> bool
     requires { (x + 1) * bits_in ink.now.depth ≤ 8 * length row.now }
@@ -57,7 +57,7 @@ fn shade(ink: &Ink, row: &[u8], x: usize) -> bool
     }
 }
 
-/// The word of so many pixels of a row, from one column on, pixel by pixel.
+/// A word of the `count` pixels of a row that start in column `from`, computed pixel by pixel.
 fn word_by_pixels(ink: &Ink, row: &[u8], from: usize, count: usize) -> u64
     requires { FitsWord (bits_in ink.now.depth) from count (8 * length row.now) }
     ensures { ShowsPixels (shade_by ink.now row.now) from count result }
@@ -69,7 +69,7 @@ fn word_by_pixels(ink: &Ink, row: &[u8], from: usize, count: usize) -> u64
     word_of(&pixels)
 }
 
-/// The word of 64 colours, each so many bytes behind the last one, from a place on.
+/// A word of 64 colours. The first one is at index `from`, and each is `step` bytes after the one before.
 #[inline(always)]
 fn colors_word(tone: &Tone, row: &[u8], from: usize, step: usize) -> u64
     requires within { from + step * 64 ≤ length row.now }
@@ -81,7 +81,7 @@ fn colors_word(tone: &Tone, row: &[u8], from: usize, step: usize) -> u64
     inverted(dark, tone.invert)
 }
 
-/// The word of 64 pixels of a row, from one column on.
+/// A word of the 64 pixels of a row that start in column `from`.
 fn full_word(ink: &Ink, row: &[u8], from: usize) -> u64
     requires { FitsWord (bits_in ink.now.depth) from 64 (8 * length row.now) }
     ensures { ShowsPixels (shade_by ink.now row.now) from 64 result }
@@ -93,7 +93,7 @@ fn full_word(ink: &Ink, row: &[u8], from: usize) -> u64
     }
 }
 
-/// The word of so many pixels of a row, from one column on.
+/// A word of the `count` pixels of a row that start in column `from`.
 fn word(ink: &Ink, row: &[u8], from: usize, count: usize) -> u64
     requires { FitsWord (bits_in ink.now.depth) from count (8 * length row.now) }
     ensures { ShowsPixels (shade_by ink.now row.now) from count result }
@@ -105,7 +105,7 @@ fn word(ink: &Ink, row: &[u8], from: usize, count: usize) -> u64
     }
 }
 
-/// Puts a row of bytes into row y, word by word.
+/// Writes a row of bytes to row `y` of the page, word by word.
 fn place_words(page: &mut Bitmap, y: u32, ink: &Ink, row: &[u8])
     requires row { y < page.old.height }
     requires whole { page.old.width * bits_in ink.now.depth ≤ 8 * length row.now }
@@ -120,7 +120,7 @@ fn place_words(page: &mut Bitmap, y: u32, ink: &Ink, row: &[u8])
     }
 }
 
-/// Whether one of the first two colours is black and the other isn't.
+/// Whether exactly one of the palette's first two colours is black.
 fn are_apart(table: &[bool; 256]) -> bool
     ensures { result ≡ true
         → slice_index_or table.now 1 false ≡ not (slice_index_or table.now 0 false) }
@@ -128,8 +128,8 @@ fn are_apart(table: &[bool; 256]) -> bool
     table[0] != table[1]
 }
 
-/// Puts a row of bytes into row y. Bits are taken as they are packed, where they tell two colours
-/// apart.
+/// Writes a row of bytes to row `y` of the page. If each bit selects a black or a white colour, the bits are
+/// copied as they are packed.
 fn place_row(page: &mut Bitmap, y: u32, ink: &Ink, row: &[u8])
     requires row { y < page.old.height }
     requires whole { page.old.width * bits_in ink.now.depth ≤ 8 * length row.now }
@@ -146,7 +146,7 @@ fn place_row(page: &mut Bitmap, y: u32, ink: &Ink, row: &[u8])
     place_words(page, y, ink, row);
 }
 
-/// The row of the page that the picture's row of this number is: they come from the top, or from below.
+/// The row of the page for row `i` of the picture, which is stored from the top or from the bottom.
 fn row_place(top_down: bool, height: u32, i: u32) -> u32
     requires { i < height }
     ensures value { result ≡ row_place top_down height i }
@@ -155,7 +155,7 @@ fn row_place(top_down: bool, height: u32, i: u32) -> u32
     if top_down { height - (i + 1) } else { i }
 }
 
-/// The rows of a picture, painted on the page, with room for one of them.
+/// Reads the rows of a picture into the page. `row` is a buffer for one of them.
 pub(crate) fn read_rows<I: Inputs>(
     buffer: &mut Buffer,
     inputs: &mut I,

@@ -1,7 +1,7 @@
 use Rattle.std.proofs.Common.{rules}
 use Rattle.std.proofs.lemmas.Result.{err_from_is_err_and}
 use Rattle.bitmap_input.proofs.BmpPictures.{bmp_read, bmp_stopped, header_stopped}
-use Rattle.bitmap_input.proofs.Leaving.{leaving}
+use Rattle.bitmap_input.proofs.StepEffects.{leaving}
 use Rattle.bitmap_input.proofs.bmp.read_bmp.Goals as goal
 
 pub returns-in_err-header : goal.returns-in_err-header

@@ -1,7 +1,7 @@
 use Rattle.std.proofs.lemmas.Result.{err_from_is_err_and}
 use Rattle.bitmap_input.specs.Raw.{IsShown}
 use Rattle.bitmap_input.specs.Inner.BmpHead.{pixels_by}
-use Rattle.bitmap_input.proofs.Telling.{reads_memory}
+use Rattle.bitmap_input.proofs.ComposedSteps.{reads_memory}
 use Rattle.bitmap_input.proofs.BmpPictures.{picture_shown, picture_stopped}
 use Rattle.bitmap_input.proofs.bmp.read_pixels.Goals as goal
 

@@ -4,9 +4,9 @@ use Rattle.bitmap_input.specs.Cut.{◌>>=◌}
 use Rattle.bitmap_input.specs.PageParts.{block}
 use Rattle.bitmap_input.specs.BmpRaster.{palette_color}
 use Rattle.bitmap_input.specs.Inner.BmpHead.{pixels_by}
-use Rattle.bitmap_input.proofs.Appending.{block_stays}
-use Rattle.bitmap_input.proofs.Telling.{reads_on, reads_stop}
-use Rattle.bitmap_input.proofs.Leaving.{leaving}
+use Rattle.bitmap_input.proofs.AddedBytes.{block_stays}
+use Rattle.bitmap_input.proofs.ComposedSteps.{reads_on, reads_stop}
+use Rattle.bitmap_input.proofs.StepEffects.{leaving}
 use Rattle.bitmap_input.proofs.bmp.read_raster.Goals as goal
 
 pub returns-in_err-read_palette : goal.returns-in_err-read_palette

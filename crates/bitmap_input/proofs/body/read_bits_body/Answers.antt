@@ -3,9 +3,9 @@ use Rattle.bitmap_input.specs.Cut.{◌>>=◌}
 use Rattle.bitmap_input.specs.Front.{rows_raster}
 use Rattle.bitmap_input.specs.GrayRows.{header_end}
 use Rattle.bitmap_input.specs.Inner.Stored.{is_plain, row_stored, pixel_entry}
-use Rattle.bitmap_input.proofs.Appending.{sides_stay}
-use Rattle.bitmap_input.proofs.GrayHeading.{header_end_stays}
-use Rattle.bitmap_input.proofs.Telling.{reads_on, reads_stop}
+use Rattle.bitmap_input.proofs.AddedBytes.{sides_stay}
+use Rattle.bitmap_input.proofs.GrayHeaders.{header_end_stays}
+use Rattle.bitmap_input.proofs.ComposedSteps.{reads_on, reads_stop}
 use Rattle.bitmap_input.proofs.Bodies.{rows_at}
 use Rattle.bitmap_input.proofs.body.read_bits_body.Goals as goal
 

@@ -1,9 +1,9 @@
 use Rattle.std.proofs.Common.{◌++◌, refl, rules}
 use Rattle.bitmap_input.specs.Front.Magic.{PlainBits, RawBits, PlainSamples, RawSamples}
 use Rattle.bitmap_input.proofs.Behind.{reads_unclaimed, plain_bits_unclaimed, raw_bits_unclaimed, plain_samples_unclaimed, raw_samples_unclaimed}
-use Rattle.bitmap_input.proofs.Telling.{reads_as}
+use Rattle.bitmap_input.proofs.ComposedSteps.{reads_as}
 use Rattle.bitmap_input.proofs.Formats.{plain_bits_body}
-use Rattle.bitmap_input.proofs.Leaving.{leaving}
+use Rattle.bitmap_input.proofs.StepEffects.{leaving}
 use Rattle.bitmap_input.proofs.body.read_body.Goals as goal
 
 pub returns-in-PlainBits : goal.returns-in-PlainBits

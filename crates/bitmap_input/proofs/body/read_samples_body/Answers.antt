@@ -4,12 +4,12 @@ use Rattle.bitmap_input.specs.Cut.{◌>>=◌}
 use Rattle.bitmap_input.specs.Front.{maxval, rows_raster}
 use Rattle.bitmap_input.specs.GrayRows.{header_end}
 use Rattle.bitmap_input.specs.Samples.{as_entry}
-use Rattle.bitmap_input.proofs.Appending.{sides_stay, maxval_stays}
-use Rattle.bitmap_input.proofs.GrayHeading.{header_end_stays}
-use Rattle.bitmap_input.proofs.Telling.{reads_on, reads_stop, reads_as}
+use Rattle.bitmap_input.proofs.AddedBytes.{sides_stay, maxval_stays}
+use Rattle.bitmap_input.proofs.GrayHeaders.{header_end_stays}
+use Rattle.bitmap_input.proofs.ComposedSteps.{reads_on, reads_stop, reads_as}
 use Rattle.bitmap_input.proofs.Bodies.{rows_at}
 use Rattle.bitmap_input.proofs.Formats.{samples_row, samples_body, samples_stored, samples_at_level}
-use Rattle.bitmap_input.proofs.Leaving.{leaving}
+use Rattle.bitmap_input.proofs.StepEffects.{leaving}
 use Rattle.bitmap_input.proofs.body.read_samples_body.Goals as goal
 
 pub returns-in_err-sides : goal.returns-in_err-sides

@@ -1,7 +1,7 @@
 use Rattle.std.proofs.Common.{ℕ, ◌≤◌, ◌+◌, ◌*◌, ◌∙◌, ap, arith}
 use Rattle.std.specs.Prelude.{nat_le}
 use Rattle.bitmap_input.specs.Inner.Shading.{bytes_sum}
-use Rattle.bitmap_input.proofs.Packing.{capped}
+use Rattle.bitmap_input.proofs.PackedWords.{capped}
 use Rattle.bitmap_input.proofs.dark.color_word.Goals as goal
 
 pub returns : goal.returns

@@ -1,6 +1,6 @@
 use Rattle.std.proofs.Common.{◌+◌, ◌∙◌, ap, get_or, arith}
 use Rattle.std.specs.Prelude.{nat_le}
-use Rattle.bitmap_input.proofs.Packing.{capped}
+use Rattle.bitmap_input.proofs.PackedWords.{capped}
 use Rattle.bitmap_input.proofs.dark.gray_word.Goals as goal
 
 pub returns : goal.returns

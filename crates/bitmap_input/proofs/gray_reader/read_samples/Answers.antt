@@ -1,8 +1,8 @@
 use Rattle.std.proofs.Common.{ap, sym, ◌∙◌, map, rules}
 use Rattle.bitmap_input.specs.GrayRows.{lowered}
-use Rattle.bitmap_input.proofs.Telling.{reads_weaken}
-use Rattle.bitmap_input.proofs.Graying.{lowered_row}
-use Rattle.bitmap_input.proofs.Leaving.{leaving}
+use Rattle.bitmap_input.proofs.ComposedSteps.{reads_weaken}
+use Rattle.bitmap_input.proofs.SampleBytes.{lowered_row}
+use Rattle.bitmap_input.proofs.StepEffects.{leaving}
 use Rattle.bitmap_input.proofs.gray_reader.read_samples.Goals as goal
 
 pub returns-then-plain-clause-reads : goal.returns-then-plain-clause-reads

@@ -1,9 +1,9 @@
 use Rattle.std.proofs.Common.{◌≡◌, ◌-◌, ◌+◌, suc, map, length, arith, rules}
 use Rattle.std.proofs.lemmas.Result.{err_from_is_err_and}
 use Rattle.bitmap_input.specs.GrayRows.{lowered}
-use Rattle.bitmap_input.proofs.Appending.{plain_sample_stays}
-use Rattle.bitmap_input.proofs.Gathering.{gathering_goes_on, gathering_stops, gathering_ends, one_more, all_taken}
-use Rattle.bitmap_input.proofs.Leaving.{leaving}
+use Rattle.bitmap_input.proofs.AddedBytes.{plain_sample_stays}
+use Rattle.bitmap_input.proofs.GatheredParts.{gathering_goes_on, gathering_stops, gathering_ends, one_more, all_taken}
+use Rattle.bitmap_input.proofs.StepEffects.{leaving}
 use Rattle.bitmap_input.proofs.gray_rows.read_plain_gray_row.Goals as goal
 
 pub returns-in_err-sample-clause-reads : goal.returns-in_err-sample-clause-reads

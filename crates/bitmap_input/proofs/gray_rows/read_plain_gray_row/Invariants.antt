@@ -2,7 +2,7 @@ use Rattle.std.proofs.Common.{◌-◌, ◌≡◌, ◌++◌, length, map, take, O
 use Rattle.bitmap_input.specs.Inner.Reading.{Leaves}
 use Rattle.bitmap_input.specs.Samples.{plain_sample}
 use Rattle.bitmap_input.specs.GrayRows.{lowered}
-use Rattle.bitmap_input.proofs.Gathering.{IsGatheredSoFar}
+use Rattle.bitmap_input.proofs.GatheredParts.{IsGatheredSoFar}
 use Rattle.bitmap_input.proofs.gray_rows.read_plain_gray_row.Given as goal
 
 abbrev pub invariant-loop-x : goal.invariant-loop-x

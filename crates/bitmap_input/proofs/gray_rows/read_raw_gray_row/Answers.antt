@@ -3,9 +3,9 @@ use Rattle.std.proofs.lemmas.Result.{err_from_is_err_and}
 use Rattle.bitmap_input.specs.Cut.Cut.{Takes}
 use Rattle.bitmap_input.specs.Samples.{samples_in, samples, grouped, is_wide}
 use Rattle.bitmap_input.specs.declared.channels.Channels.TheVariants.{Gray}
-use Rattle.bitmap_input.proofs.Graying.{samples-length}
-use Rattle.bitmap_input.proofs.Telling.{reads_map, reads_stop}
-use Rattle.bitmap_input.proofs.Leaving.{leaving}
+use Rattle.bitmap_input.proofs.SampleBytes.{samples-length}
+use Rattle.bitmap_input.proofs.ComposedSteps.{reads_map, reads_stop}
+use Rattle.bitmap_input.proofs.StepEffects.{leaving}
 use Rattle.bitmap_input.proofs.gray_rows.read_raw_gray_row.Goals as goal
 
 pub returns-in_err-read_block-clause-reads : goal.returns-in_err-read_block-clause-reads

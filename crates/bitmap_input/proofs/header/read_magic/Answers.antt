@@ -2,9 +2,9 @@ use Rattle.std.proofs.Common.{refl, rules}
 use Rattle.bitmap_input.specs.Cut.Kind.{UnknownFormat}
 use Rattle.bitmap_input.specs.Cut.FileEnd.{End, Refused}
 use Rattle.bitmap_input.specs.Front.{magic}
-use Rattle.bitmap_input.proofs.Telling.{reads_pass, reads_end, reads_fault}
+use Rattle.bitmap_input.proofs.ComposedSteps.{reads_pass, reads_end, reads_fault}
 use Rattle.bitmap_input.proofs.Headers.{magic_at, magic_of_none, later_ends, first_ends}
-use Rattle.bitmap_input.proofs.Leaving.{leaving}
+use Rattle.bitmap_input.proofs.StepEffects.{leaving}
 use Rattle.bitmap_input.proofs.header.read_magic.Goals as goal
 
 pub returns-in-Byte-clause-reads : goal.returns-in-Byte-clause-reads

@@ -3,9 +3,9 @@ use Rattle.bitmap_input.specs.Cut.{is_by_end}
 use Rattle.bitmap_input.specs.Cut.Cut.{Takes}
 use Rattle.bitmap_input.specs.Front.{magic_behind}
 use Rattle.bitmap_input.specs.Inner.Header.{magic_of}
-use Rattle.bitmap_input.proofs.Telling.{reads_pass, reads_value, reads_behind, reads_end, reads_fault}
+use Rattle.bitmap_input.proofs.ComposedSteps.{reads_pass, reads_value, reads_behind, reads_end, reads_fault}
 use Rattle.bitmap_input.proofs.Headers.{without_magic, no_magic_stops, no_magic_says}
-use Rattle.bitmap_input.proofs.Leaving.{leaving}
+use Rattle.bitmap_input.proofs.StepEffects.{leaving}
 use Rattle.bitmap_input.proofs.header.read_magic_behind.Goals as goal
 
 pub returns-in-Some-clause-reads : goal.returns-in-Some-clause-reads

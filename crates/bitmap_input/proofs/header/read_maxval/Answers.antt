@@ -2,10 +2,10 @@ use Rattle.std.proofs.Common.{rules}
 use Rattle.std.proofs.lemmas.Result.{err_from_is_err_and}
 use Rattle.bitmap_input.specs.Cut.Kind.{BadHeader}
 use Rattle.bitmap_input.specs.Front.{checked_maxval}
-use Rattle.bitmap_input.proofs.Appending.{number_behind_gap_stays}
-use Rattle.bitmap_input.proofs.Telling.{reads_on, reads_stop}
+use Rattle.bitmap_input.proofs.AddedBytes.{number_behind_gap_stays}
+use Rattle.bitmap_input.proofs.ComposedSteps.{reads_on, reads_stop}
 use Rattle.bitmap_input.proofs.Headers.{reads_checked_maxval}
-use Rattle.bitmap_input.proofs.Leaving.{leaving}
+use Rattle.bitmap_input.proofs.StepEffects.{leaving}
 use Rattle.bitmap_input.proofs.header.read_maxval.Goals as goal
 
 pub returns-in_err-maxval-clause-reads : goal.returns-in_err-maxval-clause-reads

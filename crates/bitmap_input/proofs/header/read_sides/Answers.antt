@@ -4,10 +4,10 @@ use Rattle.bitmap_input.specs.Cut.{◌>>=◌}
 use Rattle.bitmap_input.specs.Front.{checked}
 use Rattle.bitmap_input.specs.Cut.Kind.{BadHeader}
 use Rattle.bitmap_input.specs.PageParts.{number_behind_gap}
-use Rattle.bitmap_input.proofs.Appending.{number_behind_gap_stays}
-use Rattle.bitmap_input.proofs.Telling.{reads_on, reads_stop}
+use Rattle.bitmap_input.proofs.AddedBytes.{number_behind_gap_stays}
+use Rattle.bitmap_input.proofs.ComposedSteps.{reads_on, reads_stop}
 use Rattle.bitmap_input.proofs.Headers.{reads_checked}
-use Rattle.bitmap_input.proofs.Leaving.{leaving}
+use Rattle.bitmap_input.proofs.StepEffects.{leaving}
 use Rattle.bitmap_input.proofs.header.read_sides.Goals as goal
 
 pub returns-in_err-width-clause-reads : goal.returns-in_err-width-clause-reads

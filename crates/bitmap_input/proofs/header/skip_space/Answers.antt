@@ -3,8 +3,8 @@ use Rattle.bitmap_input.specs.Cut.Kind.{BadHeader, Truncated}
 use Rattle.bitmap_input.specs.Cut.FileEnd.{Refused}
 use Rattle.bitmap_input.specs.PageParts.{is_space, space}
 use Rattle.bitmap_input.specs.Cut.Cut.{Takes}
-use Rattle.bitmap_input.proofs.Telling.{reads_pass, reads_value, reads_refused, reads_end, reads_fault}
-use Rattle.bitmap_input.proofs.Leaving.{leaving}
+use Rattle.bitmap_input.proofs.ComposedSteps.{reads_pass, reads_value, reads_refused, reads_end, reads_fault}
+use Rattle.bitmap_input.proofs.StepEffects.{leaving}
 use Rattle.bitmap_input.proofs.header.skip_space.Goals as goal
 
 pub returns-then-is_space-clause-reads : goal.returns-then-is_space-clause-reads

@@ -1,5 +1,5 @@
 use Rattle.bitmap_input.proofs.FrontKeeps.{front_takes_some}
-use Rattle.bitmap_input.proofs.Spelling.{page_text}
+use Rattle.bitmap_input.proofs.PageBytes.{page_text}
 use Rattle.bitmap_input.proofs.laws.pages_are_parts.Goals as goal
 
 pub returns : goal.returns

@@ -1,10 +1,10 @@
 use Rattle.std.proofs.Common.{true, false, arith, rules, ◌≡◌, refl, ℕ, List}
 use Rattle.bitmap_input.specs.Cut.Cut.{Takes}
 use Rattle.bitmap_input.specs.PageParts.{run_length, is_digit, value}
-use Rattle.bitmap_input.proofs.Telling.{reads_map, reads_stop}
-use Rattle.bitmap_input.proofs.Running.{run_begins, run_ends_at, run_ends_last, run_fails, run_is_long, run_goes_on}
+use Rattle.bitmap_input.proofs.ComposedSteps.{reads_map, reads_stop}
+use Rattle.bitmap_input.proofs.ByteRuns.{run_begins, run_ends_at, run_ends_last, run_fails, run_is_long, run_goes_on}
 use Rattle.bitmap_input.proofs.Digits.{value_more, capped_more}
-use Rattle.bitmap_input.proofs.Leaving.{leaving}
+use Rattle.bitmap_input.proofs.StepEffects.{leaving}
 use Rattle.bitmap_input.proofs.number.read_digits.Goals as goal
 
 pub loop-n-init : goal.loop-n-init

@@ -2,7 +2,7 @@ use Rattle.std.proofs.Common.{◌-◌, ◌≤◌, Ok}
 use Rattle.bitmap_input.specs.Inner.Reading.{Leaves}
 use Rattle.bitmap_input.specs.PageParts.{run_length, is_digit, value}
 use Rattle.bitmap_input.specs.Inner.ByteRuns.{IsCapped}
-use Rattle.bitmap_input.proofs.Running.{RunSoFar}
+use Rattle.bitmap_input.proofs.ByteRuns.{RunSoFar}
 use Rattle.bitmap_input.proofs.number.read_digits.Given as goal
 
 abbrev pub invariant-loop-n : goal.invariant-loop-n

@@ -4,10 +4,10 @@ use Rattle.bitmap_input.specs.Cut.Kind.{Truncated}
 use Rattle.bitmap_input.specs.Cut.FileEnd.{Refused}
 use Rattle.bitmap_input.specs.PageParts.{is_digit, number}
 use Rattle.bitmap_input.specs.Inner.Number.{kind_at}
-use Rattle.bitmap_input.proofs.Appending.{some_gap_stays}
-use Rattle.bitmap_input.proofs.Telling.{reads_on, reads_stop, reads_look, reads_fault, reads_end, reads_refused}
+use Rattle.bitmap_input.proofs.AddedBytes.{some_gap_stays}
+use Rattle.bitmap_input.proofs.ComposedSteps.{reads_on, reads_stop, reads_look, reads_fault, reads_end, reads_refused}
 use Rattle.bitmap_input.proofs.Digits.{number_at, no_number_at}
-use Rattle.bitmap_input.proofs.Leaving.{leaving}
+use Rattle.bitmap_input.proofs.StepEffects.{leaving}
 use Rattle.bitmap_input.proofs.number.read_number_behind_gap.Goals as goal
 
 pub returns-in_err-skip_gap-clause-reads : goal.returns-in_err-skip_gap-clause-reads

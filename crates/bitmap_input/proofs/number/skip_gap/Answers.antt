@@ -3,9 +3,9 @@ use Rattle.bitmap_input.specs.Cut.Kind.{Truncated}
 use Rattle.bitmap_input.specs.Cut.FileEnd.{Refused}
 use Rattle.bitmap_input.specs.PageParts.{some_gap}
 use Rattle.bitmap_input.specs.Inner.Number.{kind_at}
-use Rattle.bitmap_input.proofs.Telling.{reads_look, reads_fault, reads_end, reads_refused}
+use Rattle.bitmap_input.proofs.ComposedSteps.{reads_look, reads_fault, reads_end, reads_refused}
 use Rattle.bitmap_input.proofs.Headers.{some_gap_at, no_gap_at}
-use Rattle.bitmap_input.proofs.Leaving.{leaving}
+use Rattle.bitmap_input.proofs.StepEffects.{leaving}
 use Rattle.bitmap_input.proofs.number.skip_gap.Goals as goal
 
 pub returns-in-Some-clause-reads : goal.returns-in-Some-clause-reads

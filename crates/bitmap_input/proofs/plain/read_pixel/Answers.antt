@@ -3,9 +3,9 @@ use Rattle.bitmap_input.specs.Cut.Kind.{BadRaster, Truncated}
 use Rattle.bitmap_input.specs.Cut.FileEnd.{Refused}
 use Rattle.bitmap_input.specs.Cut.Cut.{Takes}
 use Rattle.bitmap_input.specs.PageParts.{pixel}
-use Rattle.bitmap_input.proofs.Telling.{reads_pass, reads_value, reads_behind, reads_end, reads_fault}
+use Rattle.bitmap_input.proofs.ComposedSteps.{reads_pass, reads_value, reads_behind, reads_end, reads_fault}
 use Rattle.bitmap_input.proofs.Pixels.{white_at, black_at, no_pixel_at}
-use Rattle.bitmap_input.proofs.Leaving.{leaving}
+use Rattle.bitmap_input.proofs.StepEffects.{leaving}
 use Rattle.bitmap_input.proofs.plain.read_pixel.Goals as goal
 
 pub returns-in-48 : goal.returns-in-48

@@ -5,10 +5,10 @@ use Rattle.bitmap_input.specs.Cut.Cut.{Takes}
 use Rattle.bitmap_input.specs.PageParts.{pixel}
 use Rattle.bitmap_input.specs.Front.{plain_pixel}
 use Rattle.std.proofs.lemmas.Result.{err_from_is_err_and}
-use Rattle.bitmap_input.proofs.Appending.{gap_stays}
-use Rattle.bitmap_input.proofs.Telling.{reads_on, reads_stop, reads_after, reads_pass, reads_value, reads_end, reads_fault}
+use Rattle.bitmap_input.proofs.AddedBytes.{gap_stays}
+use Rattle.bitmap_input.proofs.ComposedSteps.{reads_on, reads_stop, reads_after, reads_pass, reads_value, reads_end, reads_fault}
 use Rattle.bitmap_input.proofs.Pixels.{plain_white_at, plain_black_at}
-use Rattle.bitmap_input.proofs.Leaving.{leaving}
+use Rattle.bitmap_input.proofs.StepEffects.{leaving}
 use Rattle.bitmap_input.proofs.plain.read_plain_pixel.Goals as goal
 
 pub returns-in-Byte-eq48 : goal.returns-in-Byte-eq48

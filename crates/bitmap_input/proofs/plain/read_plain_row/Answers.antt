@@ -3,10 +3,10 @@ use Rattle.std.proofs.lemmas.Result.{err_from_is_err_and}
 use Rattle.bit_image.specs.Image.{differ}
 use Rattle.bit_image.specs.Page.{image_of}
 use Rattle.bitmap_input.specs.Inner.Raster.{with_pixels}
-use Rattle.bitmap_input.proofs.Appending.{plain_pixel_stays}
-use Rattle.bitmap_input.proofs.Gathering.{gathering_goes_on, gathering_stops, gathering_ends}
-use Rattle.bitmap_input.proofs.Painting.{pixel_painted, turned}
-use Rattle.bitmap_input.proofs.Leaving.{leaving}
+use Rattle.bitmap_input.proofs.AddedBytes.{plain_pixel_stays}
+use Rattle.bitmap_input.proofs.GatheredParts.{gathering_goes_on, gathering_stops, gathering_ends}
+use Rattle.bitmap_input.proofs.PaintedPixels.{pixel_painted, turned}
+use Rattle.bitmap_input.proofs.StepEffects.{leaving}
 use Rattle.bitmap_input.proofs.plain.read_plain_row.Goals as goal
 
 pub returns-in_err-black-clause-reads : goal.returns-in_err-black-clause-reads

@@ -4,7 +4,7 @@ use Rattle.bit_image.specs.Image.{differ}
 use Rattle.bit_image.specs.Page.{SameSides, image_of}
 use Rattle.bitmap_input.specs.Front.{plain_pixel}
 use Rattle.bitmap_input.specs.Inner.Raster.{with_pixels}
-use Rattle.bitmap_input.proofs.Gathering.{IsGatheredSoFar}
+use Rattle.bitmap_input.proofs.GatheredParts.{IsGatheredSoFar}
 use Rattle.bitmap_input.proofs.plain.read_plain_row.Given as goal
 
 abbrev pub invariant-loop-x : goal.invariant-loop-x

@@ -2,7 +2,7 @@ use Rattle.std.proofs.lemmas.Result.{err_from_is_err_and}
 use Rattle.bitmap_input.specs.Front.{rows_raster}
 use Rattle.bitmap_input.specs.Raw.{IsShown}
 use Rattle.bitmap_input.specs.Inner.Stored.{row_stored, pixel_entry, is_black_pixel}
-use Rattle.bitmap_input.proofs.Telling.{reads_memory}
+use Rattle.bitmap_input.proofs.ComposedSteps.{reads_memory}
 use Rattle.bitmap_input.proofs.Bodies.{rows_shown, rows_stopped}
 use Rattle.bitmap_input.proofs.raster.read_page.Goals as goal
 

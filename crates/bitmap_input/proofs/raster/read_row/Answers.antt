@@ -1,5 +1,5 @@
 use Rattle.std.proofs.Common.{rules}
-use Rattle.bitmap_input.proofs.Leaving.{leaving}
+use Rattle.bitmap_input.proofs.StepEffects.{leaving}
 use Rattle.bitmap_input.proofs.raster.read_row.Goals as goal
 
 pub returns-in-PlainBits-clause-reads : goal.returns-in-PlainBits-clause-reads

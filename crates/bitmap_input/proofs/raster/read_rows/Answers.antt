@@ -4,9 +4,9 @@ use Rattle.bit_image.specs.Page.{image_of}
 use Rattle.bitmap_input.specs.Inner.Raster.{with_rows}
 use Rattle.bitmap_input.specs.Inner.Stored.{is_black_pixel}
 use Rattle.bitmap_input.proofs.Bodies.{row_stays}
-use Rattle.bitmap_input.proofs.Gathering.{gathering_goes_on, gathering_stops, gathering_ends}
-use Rattle.bitmap_input.proofs.Placing.{row_painted}
-use Rattle.bitmap_input.proofs.Leaving.{leaving}
+use Rattle.bitmap_input.proofs.GatheredParts.{gathering_goes_on, gathering_stops, gathering_ends}
+use Rattle.bitmap_input.proofs.PaintedRows.{row_painted}
+use Rattle.bitmap_input.proofs.StepEffects.{leaving}
 use Rattle.bitmap_input.proofs.raster.read_rows.Goals as goal
 
 pub loop-y-preserved : goal.loop-y-preserved

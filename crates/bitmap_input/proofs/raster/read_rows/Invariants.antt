@@ -3,7 +3,7 @@ use Rattle.bitmap_input.specs.Inner.Reading.{Leaves}
 use Rattle.bit_image.specs.Page.{SameSides, image_of}
 use Rattle.bitmap_input.specs.Inner.Raster.{with_rows}
 use Rattle.bitmap_input.specs.Inner.Stored.{row_stored, is_black_pixel, line_bytes}
-use Rattle.bitmap_input.proofs.Gathering.{IsGatheredSoFar}
+use Rattle.bitmap_input.proofs.GatheredParts.{IsGatheredSoFar}
 use Rattle.bitmap_input.proofs.raster.read_rows.Given as goal
 
 abbrev pub invariant-loop-y : goal.invariant-loop-y

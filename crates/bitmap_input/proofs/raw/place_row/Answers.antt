@@ -2,7 +2,7 @@ use Rattle.std.proofs.Common.{◌≡◌, List, Bool, length, take, arith}
 use Rattle.std.proofs.lemmas.List.{length-take-le}
 use Rattle.bit_image.specs.Page.{image_of}
 use Rattle.bitmap_input.specs.Raw.{unpacked}
-use Rattle.bitmap_input.proofs.Placing.{length-unpacked}
+use Rattle.bitmap_input.proofs.PaintedRows.{length-unpacked}
 use Rattle.bitmap_input.proofs.Rows.{bytes_placed, row_kept, row_flipped, white_past}
 use Rattle.bitmap_input.proofs.raw.place_row.Goals as goal
 

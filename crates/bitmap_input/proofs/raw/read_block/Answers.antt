@@ -1,6 +1,6 @@
 use Rattle.std.proofs.Common.{arith, rules, ◌≤◌, length}
 use Rattle.bitmap_input.proofs.Blocks.{block_begins, block_is_short, block_fails, block_ends, block_goes_on, filled_within}
-use Rattle.bitmap_input.proofs.Leaving.{leaving}
+use Rattle.bitmap_input.proofs.StepEffects.{leaving}
 use Rattle.bitmap_input.proofs.raw.read_block.Goals as goal
 
 pub loop-done-init : goal.loop-done-init

@@ -3,11 +3,11 @@ use Rattle.std.proofs.lemmas.Result.{err_from_is_err_and}
 use Rattle.bitmap_input.specs.Cut.{◌>>=◌}
 use Rattle.bitmap_input.specs.Front.{magic}
 use Rattle.bitmap_input.specs.Inner.Behind.{counted_body, counted_page}
-use Rattle.bitmap_input.proofs.Appending.{spaces_stay, magic_stays}
-use Rattle.bitmap_input.proofs.Skipping.{passed_over_stays}
+use Rattle.bitmap_input.proofs.AddedBytes.{spaces_stay, magic_stays}
+use Rattle.bitmap_input.proofs.SkippedBytes.{passed_over_stays}
 use Rattle.bitmap_input.proofs.Behind.{page_ahead}
-use Rattle.bitmap_input.proofs.Telling.{reads_on, reads_stop, reads_as}
-use Rattle.bitmap_input.proofs.Leaving.{leaving}
+use Rattle.bitmap_input.proofs.ComposedSteps.{reads_on, reads_stop, reads_as}
+use Rattle.bitmap_input.proofs.StepEffects.{leaving}
 use Rattle.bitmap_input.proofs.reader.read_ahead.Goals as goal
 
 pub returns-in_err-pass_over : goal.returns-in_err-pass_over

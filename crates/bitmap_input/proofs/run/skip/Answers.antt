@@ -1,9 +1,9 @@
 use Rattle.std.proofs.Common.{arith, rules, List, ℕ}
 use Rattle.bitmap_input.specs.Inner.Reading.{Any}
 use Rattle.bitmap_input.specs.Inner.ByteRuns.{run_size}
-use Rattle.bitmap_input.proofs.Telling.{reads_weaken}
-use Rattle.bitmap_input.proofs.Running.{length_of-nil, run_begins, run_ends_at, run_ends_last, run_fails, run_is_long, run_goes_on}
-use Rattle.bitmap_input.proofs.Leaving.{leaving}
+use Rattle.bitmap_input.proofs.ComposedSteps.{reads_weaken}
+use Rattle.bitmap_input.proofs.ByteRuns.{length_of-nil, run_begins, run_ends_at, run_ends_last, run_fails, run_is_long, run_goes_on}
+use Rattle.bitmap_input.proofs.StepEffects.{leaving}
 use Rattle.bitmap_input.proofs.run.skip.Goals as goal
 
 pub loop-n-init : goal.loop-n-init

@@ -1,7 +1,7 @@
 use Rattle.std.proofs.Common.{◌-◌, ◌≤◌, Ok}
 use Rattle.bitmap_input.specs.Inner.Reading.{Leaves}
 use Rattle.bitmap_input.specs.Inner.ByteRuns.{run_size}
-use Rattle.bitmap_input.proofs.Running.{RunSoFar}
+use Rattle.bitmap_input.proofs.ByteRuns.{RunSoFar}
 use Rattle.bitmap_input.proofs.run.skip.Given as goal
 
 abbrev pub invariant-loop-n : goal.invariant-loop-n

@@ -1,5 +1,5 @@
 use Rattle.std.proofs.Common.{arith}
-use Rattle.bitmap_input.proofs.Graying.{samples-most}
+use Rattle.bitmap_input.proofs.SampleBytes.{samples-most}
 use Rattle.bitmap_input.proofs.samples.brightness_at.Goals as goal
 
 pub overflow_mul-x : goal.overflow_mul-x

@@ -4,7 +4,7 @@ use Rattle.std.specs.Prelude.{map}
 use Rattle.bit_image.specs.Page.{image_of}
 use Rattle.bitmap_input.specs.Samples.{samples_in, is_wide, samples, grouped}
 use Rattle.bitmap_input.specs.Inner.Shading.{is_black_at, black_of, black_in_bytes}
-use Rattle.bitmap_input.proofs.Graying.{samples-length, grouped-length, fewer_samples, shaded}
+use Rattle.bitmap_input.proofs.SampleBytes.{samples-length, grouped-length, fewer_samples, shaded}
 use Rattle.bitmap_input.proofs.Rows.{none_placed, word_placed, words_placed, white_past}
 use Rattle.bitmap_input.proofs.samples.place_row.Goals as goal
 

@@ -5,10 +5,10 @@ use Rattle.bitmap_input.specs.Cut.Cut.{Takes}
 use Rattle.bitmap_input.specs.Samples.{plain_sample}
 use Rattle.bitmap_input.specs.Inner.Shading.{IsCappedBrightness}
 use Rattle.bitmap_input.specs.declared.channels.Channels.TheVariants.{Color}
-use Rattle.bitmap_input.proofs.Appending.{plain_sample_stays}
-use Rattle.bitmap_input.proofs.Telling.{reads_on, reads_stop, reads_made}
-use Rattle.bitmap_input.proofs.Graying.{capped_sum}
-use Rattle.bitmap_input.proofs.Leaving.{leaving}
+use Rattle.bitmap_input.proofs.AddedBytes.{plain_sample_stays}
+use Rattle.bitmap_input.proofs.ComposedSteps.{reads_on, reads_stop, reads_made}
+use Rattle.bitmap_input.proofs.SampleBytes.{capped_sum}
+use Rattle.bitmap_input.proofs.StepEffects.{leaving}
 use Rattle.bitmap_input.proofs.samples.read_plain_color.Goals as goal
 
 pub returns-in_err-red : goal.returns-in_err-red

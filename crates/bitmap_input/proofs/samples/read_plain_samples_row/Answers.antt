@@ -3,11 +3,11 @@ use Rattle.std.proofs.lemmas.Result.{err_from_is_err_and}
 use Rattle.bit_image.specs.Page.{image_of}
 use Rattle.bitmap_input.specs.Inner.Raster.{with_pixels}
 use Rattle.bitmap_input.specs.Inner.Shading.{black_of}
-use Rattle.bitmap_input.proofs.Appending.{plain_samples_stay}
-use Rattle.bitmap_input.proofs.Gathering.{gathering_goes_on, gathering_stops, gathering_ends}
-use Rattle.bitmap_input.proofs.Painting.{pixel_painted}
-use Rattle.bitmap_input.proofs.Graying.{capped_black}
-use Rattle.bitmap_input.proofs.Leaving.{leaving}
+use Rattle.bitmap_input.proofs.AddedBytes.{plain_samples_stay}
+use Rattle.bitmap_input.proofs.GatheredParts.{gathering_goes_on, gathering_stops, gathering_ends}
+use Rattle.bitmap_input.proofs.PaintedPixels.{pixel_painted}
+use Rattle.bitmap_input.proofs.SampleBytes.{capped_black}
+use Rattle.bitmap_input.proofs.StepEffects.{leaving}
 use Rattle.bitmap_input.proofs.samples.read_plain_samples_row.Goals as goal
 
 pub returns-in_err-brightness-clause-reads : goal.returns-in_err-brightness-clause-reads

@@ -4,7 +4,7 @@ use Rattle.bitmap_input.specs.Inner.Shading.{black_of}
 use Rattle.bit_image.specs.Page.{SameSides, image_of}
 use Rattle.bitmap_input.specs.Samples.{plain_samples}
 use Rattle.bitmap_input.specs.Inner.Raster.{with_pixels}
-use Rattle.bitmap_input.proofs.Gathering.{IsGatheredSoFar}
+use Rattle.bitmap_input.proofs.GatheredParts.{IsGatheredSoFar}
 use Rattle.bitmap_input.proofs.samples.read_plain_samples_row.Given as goal
 
 abbrev pub invariant-loop-x : goal.invariant-loop-x

@@ -1,5 +1,5 @@
 use Rattle.std.proofs.Common.{sym, arith}
-use Rattle.bitmap_input.proofs.Graying.{wide_within, wide_sample}
+use Rattle.bitmap_input.proofs.SampleBytes.{wide_within, wide_sample}
 use Rattle.bitmap_input.proofs.samples.sample_at.Goals as goal
 
 pub overflow_mul-result : goal.overflow_mul-result

@@ -1,8 +1,8 @@
 use Rattle.std.proofs.Common.{◌+◌, ◌∙◌, false, ap, arith, rules}
 use Rattle.bitmap_input.specs.Samples.{samples}
 use Rattle.bitmap_input.specs.Inner.Shading.{brightness_at, is_black_at, black_in_bytes}
-use Rattle.bitmap_input.proofs.Graying.{fewer_samples}
-use Rattle.bitmap_input.proofs.Packing.{filled_more}
+use Rattle.bitmap_input.proofs.SampleBytes.{fewer_samples}
+use Rattle.bitmap_input.proofs.PackedWords.{filled_more}
 use Rattle.bitmap_input.proofs.samples.word_by_pixels.Goals as goal
 
 pub brightness_at-brightness-requires : goal.brightness_at-brightness-requires

@@ -1,6 +1,6 @@
 use Rattle.std.proofs.Common.{arith, rules, refl}
-use Rattle.bitmap_input.proofs.Skipping.{skip_begins, skip_goes_on, skip_ends, skip_is_short, skip_fails}
-use Rattle.bitmap_input.proofs.Leaving.{leaving}
+use Rattle.bitmap_input.proofs.SkippedBytes.{skip_begins, skip_goes_on, skip_ends, skip_is_short, skip_fails}
+use Rattle.bitmap_input.proofs.StepEffects.{leaving}
 use Rattle.bitmap_input.proofs.skip.pass_over.Goals as goal
 
 pub loop-left-init : goal.loop-left-init

@@ -1,6 +1,6 @@
 use Rattle.std.proofs.Common.{Ok}
 use Rattle.bitmap_input.specs.Inner.Reading.{Leaves}
-use Rattle.bitmap_input.proofs.Skipping.{IsPassedSoFar}
+use Rattle.bitmap_input.proofs.SkippedBytes.{IsPassedSoFar}
 use Rattle.bitmap_input.proofs.skip.pass_over.Given as goal
 
 abbrev pub invariant-loop-left : goal.invariant-loop-left

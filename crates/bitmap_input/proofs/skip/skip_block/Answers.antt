@@ -1,7 +1,7 @@
 use Rattle.std.proofs.Common.{arith, rules}
 use Rattle.std.proofs.lemmas.Result.{err_from_is_err_and}
-use Rattle.bitmap_input.proofs.Skipping.{block_passed, block_missing, block_failed}
-use Rattle.bitmap_input.proofs.Leaving.{leaving}
+use Rattle.bitmap_input.proofs.SkippedBytes.{block_passed, block_missing, block_failed}
+use Rattle.bitmap_input.proofs.StepEffects.{leaving}
 use Rattle.bitmap_input.proofs.skip.skip_block.Goals as goal
 
 pub returns-then-missing-eq0 : goal.returns-then-missing-eq0

@@ -1,6 +1,6 @@
 use Rattle.std.proofs.Common.{List, Bool, ℕ, false, [], ◌∷◌, ◌+◌, ◌*◌, ◌%◌, ◌/◌, ◌^◌, get_or, ap, ◌∙◌, refl}
 use Rattle.bit_image.specs.Words.{is_one}
-use Rattle.bitmap_input.proofs.Packing.{gathered-number, is_one-number, eight_at}
+use Rattle.bitmap_input.proofs.PackedWords.{gathered-number, is_one-number, eight_at}
 use Rattle.bitmap_input.proofs.words.byte_at.Goals as goal
 
 pub returns : goal.returns

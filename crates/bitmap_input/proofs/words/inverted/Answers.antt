@@ -1,7 +1,7 @@
 use Rattle.std.proofs.Common.{◌∙◌, ap, sym}
 use Rattle.bit_image.specs.Image.{differ}
 use Rattle.bit_image.specs.Words.{is_one}
-use Rattle.bitmap_input.proofs.Packing.{flipped}
+use Rattle.bitmap_input.proofs.PackedWords.{flipped}
 use Rattle.bitmap_input.proofs.words.inverted.Goals as goal
 
 pub returns-then-invert : goal.returns-then-invert

@@ -2,7 +2,7 @@ use Rattle.std.proofs.Common.{◌*◌, ◌+◌, ◌%◌, ◌^◌, ◌&&◌, ◌�
 use Rattle.std.specs.Int.RustNames.{bit_or}
 use Rattle.std.proofs.lemmas.Bool.{lt-ltb, le-ltb}
 use Rattle.bit_image.proofs.Bits.{is_one-zero}
-use Rattle.bitmap_input.proofs.Packing.{HasFirst, eight_more}
+use Rattle.bitmap_input.proofs.PackedWords.{HasFirst, eight_more}
 use Rattle.bitmap_input.proofs.words.word_of.Goals as goal
 
 pub loop-j-init : goal.loop-j-init

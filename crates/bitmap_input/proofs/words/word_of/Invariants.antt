@@ -1,5 +1,5 @@
 use Rattle.std.proofs.Common.{◌*◌, false, get_or}
-use Rattle.bitmap_input.proofs.Packing.{HasFirst}
+use Rattle.bitmap_input.proofs.PackedWords.{HasFirst}
 use Rattle.bitmap_input.proofs.words.word_of.Given as goal
 
 abbrev pub invariant-loop-j : goal.invariant-loop-j

@@ -1,8 +1,8 @@
 use Rattle.std.proofs.Common.{◌≡◌, ◌+◌, ◌-◌, ◌++◌, length, take, arith, rules, ap, sym, ◌∙◌}
 use Rattle.std.proofs.lemmas.Slice.{take-put_mid}
 use Rattle.bitmap_input.proofs.Blocks.{block_as}
-use Rattle.bitmap_input.proofs.Telling.{reads_weaken}
-use Rattle.bitmap_input.proofs.Leaving.{leaving}
+use Rattle.bitmap_input.proofs.ComposedSteps.{reads_weaken}
+use Rattle.bitmap_input.proofs.StepEffects.{leaving}
 use Rattle.bitmap_input.proofs.bmp.head.read_into.Goals as goal
 
 pub returns-clause-reads : goal.returns-clause-reads

@@ -3,7 +3,7 @@ use Rattle.bitmap_input.specs.Cut.Kind.{BadOffset}
 use Rattle.bitmap_input.specs.Cut.FileEnd.{Refused}
 use Rattle.bitmap_input.specs.BmpHeader.{width, height, pixel_offset, palette_end}
 use Rattle.bitmap_input.specs.Inner.ByteRuns.{cap, IsCapped}
-use Rattle.bitmap_input.proofs.BmpReading.{placed_too_soon}
+use Rattle.bitmap_input.proofs.BmpSteps.{placed_too_soon}
 use Rattle.bitmap_input.proofs.bmp.header.describe.Goals as goal
 
 pub returns-then-pixel_offset-palette_end :

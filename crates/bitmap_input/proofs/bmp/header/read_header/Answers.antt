@@ -4,9 +4,9 @@ use Rattle.bitmap_input.specs.Cut.{◌>>=◌}
 use Rattle.bitmap_input.specs.Bmp.{info, masks, placed}
 use Rattle.bitmap_input.proofs.BmpStays.{start_stays, info_stays, masks_stay}
 use Rattle.bitmap_input.proofs.BmpLengths.{whole_has}
-use Rattle.bitmap_input.proofs.BmpReading.{reads_passes}
-use Rattle.bitmap_input.proofs.Telling.{reads_on, reads_stop}
-use Rattle.bitmap_input.proofs.Leaving.{leaving}
+use Rattle.bitmap_input.proofs.BmpSteps.{reads_passes}
+use Rattle.bitmap_input.proofs.ComposedSteps.{reads_on, reads_stop}
+use Rattle.bitmap_input.proofs.StepEffects.{leaving}
 use Rattle.bitmap_input.proofs.bmp.header.read_header.Goals as goal
 
 pub invariant_of-info : goal.invariant_of-info

@@ -3,12 +3,12 @@ use Rattle.std.proofs.lemmas.Result.{err_from_is_err_and}
 use Rattle.bitmap_input.specs.Cut.Kind.{BmpKind}
 use Rattle.bitmap_input.specs.BmpHeader.{has_known_colors}
 use Rattle.bitmap_input.specs.Bmp.{passes}
-use Rattle.bitmap_input.proofs.Appending.{block_stays}
+use Rattle.bitmap_input.proofs.AddedBytes.{block_stays}
 use Rattle.bitmap_input.proofs.Blocks.{block_as}
 use Rattle.bitmap_input.proofs.BmpLengths.{info_has, whole_has, masks_within}
-use Rattle.bitmap_input.proofs.BmpReading.{whole_read, bits_stay, passed, not_passed}
-use Rattle.bitmap_input.proofs.Telling.{reads_on, reads_stop}
-use Rattle.bitmap_input.proofs.Leaving.{leaving}
+use Rattle.bitmap_input.proofs.BmpSteps.{whole_read, bits_stay, passed, not_passed}
+use Rattle.bitmap_input.proofs.ComposedSteps.{reads_on, reads_stop}
+use Rattle.bitmap_input.proofs.StepEffects.{leaving}
 use Rattle.bitmap_input.proofs.bmp.header.read_masks.Goals as goal
 
 pub invariant_of-info : goal.invariant_of-info

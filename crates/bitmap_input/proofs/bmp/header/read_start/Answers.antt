@@ -3,10 +3,10 @@ use Rattle.std.proofs.lemmas.Result.{err_from_is_err_and}
 use Rattle.bitmap_input.specs.Cut.Kind.{BmpKind}
 use Rattle.bitmap_input.specs.BmpHeader.{header_size, is_known_size}
 use Rattle.bitmap_input.specs.Bmp.{passes}
-use Rattle.bitmap_input.proofs.Appending.{block_stays}
-use Rattle.bitmap_input.proofs.BmpReading.{passed, not_passed}
-use Rattle.bitmap_input.proofs.Telling.{reads_on, reads_stop}
-use Rattle.bitmap_input.proofs.Leaving.{leaving}
+use Rattle.bitmap_input.proofs.AddedBytes.{block_stays}
+use Rattle.bitmap_input.proofs.BmpSteps.{passed, not_passed}
+use Rattle.bitmap_input.proofs.ComposedSteps.{reads_on, reads_stop}
+use Rattle.bitmap_input.proofs.StepEffects.{leaving}
 use Rattle.bitmap_input.proofs.bmp.header.read_start.Goals as goal
 
 pub returns-in_err-read-clause-reads : goal.returns-in_err-read-clause-reads

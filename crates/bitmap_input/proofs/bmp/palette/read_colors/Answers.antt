@@ -1,7 +1,7 @@
 use Rattle.std.proofs.Common.{rules}
 use Rattle.std.proofs.lemmas.Result.{err_from_is_err_and}
-use Rattle.bitmap_input.proofs.Telling.{reads_weaken}
-use Rattle.bitmap_input.proofs.Leaving.{leaving}
+use Rattle.bitmap_input.proofs.ComposedSteps.{reads_weaken}
+use Rattle.bitmap_input.proofs.StepEffects.{leaving}
 use Rattle.bitmap_input.proofs.bmp.palette.read_colors.Goals as goal
 
 pub returns-in_err-read_block : goal.returns-in_err-read_block

@@ -10,8 +10,8 @@ use Rattle.bitmap_input.specs.Inner.BmpHead.{bits_in, shade_in, row_place, row_b
 use Rattle.bitmap_input.specs.Inner.Raster.{with_row, with_placed}
 use Rattle.bitmap_input.proofs.BmpStays.{color_row_stays}
 use Rattle.bitmap_input.proofs.BmpPixels.{shade_is, shades_are, placed_painted}
-use Rattle.bitmap_input.proofs.Telling.{reads_map, reads_stop}
-use Rattle.bitmap_input.proofs.Gathering.{gathering_goes_on, gathering_stops, gathering_ends}
+use Rattle.bitmap_input.proofs.ComposedSteps.{reads_map, reads_stop}
+use Rattle.bitmap_input.proofs.GatheredParts.{gathering_goes_on, gathering_stops, gathering_ends}
 use Rattle.bitmap_input.proofs.bmp.pixels.read_rows.Goals as goal
 
 pub place_row-requires-clause-whole : goal.place_row-requires-clause-whole

@@ -5,7 +5,7 @@ use Rattle.bitmap_input.specs.Raw.{Entry, black}
 use Rattle.bitmap_input.specs.BmpRaster.{color_row}
 use Rattle.bitmap_input.specs.Inner.BmpHead.{IsPaletteTable, bits_in, row_place, row_bytes_by}
 use Rattle.bitmap_input.specs.Inner.Raster.{with_placed}
-use Rattle.bitmap_input.proofs.Gathering.{IsGatheredSoFar}
+use Rattle.bitmap_input.proofs.GatheredParts.{IsGatheredSoFar}
 use Rattle.bitmap_input.proofs.bmp.pixels.read_rows.Given as goal
 
 abbrev pub invariant-loop-i : goal.invariant-loop-i

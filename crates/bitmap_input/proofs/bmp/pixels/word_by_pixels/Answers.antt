@@ -1,7 +1,7 @@
 use Rattle.std.proofs.Common.{◌+◌, ◌∙◌, false, length, arith, rules}
 use Rattle.bitmap_input.specs.Inner.BmpHead.{shade_by}
 use Rattle.bitmap_input.proofs.BmpPixels.{column_within}
-use Rattle.bitmap_input.proofs.Packing.{filled_more}
+use Rattle.bitmap_input.proofs.PackedWords.{filled_more}
 use Rattle.bitmap_input.proofs.bmp.pixels.word_by_pixels.Goals as goal
 
 pub shade-requires : goal.shade-requires

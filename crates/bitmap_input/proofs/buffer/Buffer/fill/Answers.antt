@@ -1,7 +1,7 @@
 use Rattle.std.proofs.Common.{◌≡◌, ◌<◌, ◌≤◌, ◌∙◌, List, [], ℕ, length, ap, sym, arith, rules}
 use Rattle.std.proofs.lemmas.Result.{err_from_is_err_and}
 use Rattle.bitmap_input.specs.Reading.{Buffered}
-use Rattle.bitmap_input.proofs.Filling.{read_moves, none_held, some_filled, none_filled, filled_within}
+use Rattle.bitmap_input.proofs.FilledBuffer.{read_moves, none_held, some_filled, none_filled, filled_within}
 use Rattle.bitmap_input.proofs.buffer.Buffer.fill.Goals as goal
 
 pub returns-in_err-n-clause-fills : goal.returns-in_err-n-clause-fills

@@ -4,7 +4,7 @@ use Rattle.bitmap_input.specs.Cut.FileEnd.{End, Trailing}
 use Rattle.bitmap_input.specs.Inner.Reading.{cause_of}
 use Rattle.bitmap_input.specs.Reading.{cause_of_fault}
 use Rattle.bitmap_input.specs.Reader.{Reader}
-use Rattle.bitmap_input.proofs.Answering.{reader_of, gives_page, gives_ending, fails_read, wants_memory, if_says, told_page, told_says, over_comes, page_comes, end_comes, trailing_comes, fault_comes}
+use Rattle.bitmap_input.proofs.ReaderResults.{reader_of, gives_page, gives_ending, fails_read, wants_memory, if_says, told_page, told_says, over_comes, page_comes, end_comes, trailing_comes, fault_comes}
 use Rattle.bitmap_input.proofs.GrayAnswers.{still_at_end, never_falls}
 use Rattle.bitmap_input.proofs.reader.PageReader.next.Goals as goal
 use Rattle.bitmap_input.proofs.reader.PageReader.next.Goals.{in-End, in-Trailing, in-Fault}

@@ -1,5 +1,5 @@
 use Rattle.std.proofs.Common.{nat_le}
-use Rattle.bitmap_input.proofs.Painting.{turned}
+use Rattle.bitmap_input.proofs.PaintedPixels.{turned}
 use Rattle.bitmap_input.proofs.shading.Shading.black.Goals as goal
 
 pub returns : goal.returns

@@ -1,8 +1,8 @@
 use Rattle.std.proofs.Common.{arith, rules}
 use Rattle.std.proofs.lemmas.Result.{err_from_is_err_and}
 use Rattle.bitmap_input.proofs.Blocks.{block_as}
-use Rattle.bitmap_input.proofs.Telling.{reads_failed}
-use Rattle.bitmap_input.proofs.Leaving.{leaving}
+use Rattle.bitmap_input.proofs.ComposedSteps.{reads_failed}
+use Rattle.bitmap_input.proofs.StepEffects.{leaving}
 use Rattle.bitmap_input.proofs.bmp.head.Head.read.Goals as goal
 
 pub returns-in_err-read_into-clause-reads : goal.returns-in_err-read_into-clause-reads

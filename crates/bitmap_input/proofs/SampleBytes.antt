@@ -1,5 +1,4 @@
--- Samples that become pixels: how a row of bytes holds them, and when numbers that were cut are the same
--- pixel as the whole ones.
+-- How a row of bytes holds samples, and why capped numbers give the same pixels as the whole ones.
 use Rattle.std.proofs.Common.{◌≡◌, refl, ℕ, zero, suc, ◌+◌, ◌*◌, ◌≤◌, ◌<◌, inl, inr, Bool, true, false, List, [], ◌∷◌, length, map, get_or, arith, ap, sym, ◌∙◌, Option, Ok, Fits, w16}
 use Rattle.std.specs.Prelude.{if◌then◌else◌, nat_le}
 use Rattle.std.proofs.lemmas.Bool.{lt-leb, le-leb, cases_lt}
@@ -46,13 +45,13 @@ wide_sample (suc i) (a ∷ b ∷ bytes) h =
     let second : 2 * suc i + 1 ≡ suc (suc (2 * i + 1)) = omega arith in
     rw (second, first) (wide_sample i bytes (omega arith))
 
--- samples of two bytes are given as they are
+-- samples of two bytes aren't lowered
 pub lowered_row : (row : List ℕ) → ((i : ℕ) → Fits w16 (get_or row i 0)) → map lowered row ≡ row
 lowered_row [] within = refl
 lowered_row (x ∷ row) within =
     let first : lowered x ≡ x = omega (arith, within 0) in rw (first, lowered_row row (λ i. within (suc i))) refl
 
--- no sample has less than a byte
+-- a sample has at least one byte
 wide_samples-most : (bytes : List ℕ) → length (samples true bytes) ≤ length bytes
 wide_samples-most [] = omega arith
 wide_samples-most (a ∷ []) = omega arith
@@ -64,7 +63,7 @@ samples-most false bytes = omega arith
 
 -- A pixel has one sample or three.
 
--- fewer pixels have no more samples
+-- fewer pixels don't have more samples
 pub fewer_samples : (c : Channels) (m n most : ℕ) → m ≤ n → samples_in c * n ≤ most → samples_in c * m ≤ most
 fewer_samples Gray m n most less h = omega arith
 fewer_samples Color m n most less h = omega arith
@@ -93,13 +92,13 @@ color_shaded f (suc x) (r ∷ g ∷ b ∷ vs) h =
     let third : 3 * suc x + 2 ≡ suc (suc (suc (3 * x + 2))) = omega arith in
     rw (third, second, first) (color_shaded f x vs (omega arith))
 
--- what is made of the brightness of a pixel is that of its place in a row
+-- a function of a pixel's brightness, applied in the row, gives the row's value in the pixel's column
 pub shaded : (c : Channels) (f : ℕ → Bool) (x : ℕ) (vs : List ℕ) → x < length (grouped c vs) →
     f (brightness_at c vs x) ≡ get_or (map (λ a. f (brightness c a)) (grouped c vs)) x false
 shaded Gray f x vs h = sym (get_or-map f vs x 0 _ h)
 shaded Color f x vs h = color_shaded f x vs h
 
--- A number that is cut is above the brightness of each pixel that is black.
+-- A number that is capped is greater than the brightness of any black pixel.
 
 pub least_cap : (c : Channels) (limit maxval : ℕ) → maxval ≤ 65535 → limit ≤ samples_in c * maxval → limit < cap
 least_cap Gray limit maxval most less = omega arith
@@ -121,10 +120,10 @@ pub capped_black : (s : Shading) (x : ℕ) (a : PixelSamples s.channels) → IsC
 capped_black s x a capped =
     ap (differ s.invert) (capped_brightness s.channels s.limit x a (least_cap s.channels s.limit s.maxval s.most s.no_brighter) capped)
 
--- three numbers that were cut
+-- the sum of three capped numbers
 pub capped_sum : (x y z r g b : ℕ) → IsCapped x r → IsCapped y g → IsCapped z b → IsCappedBrightness Color (x + y + z) (r, g, b)
 capped_sum x y z r g b is_red is_green is_blue = omega (arith, is_red, is_green, is_blue)
 
--- a number that was read is cut
+-- a number that was read is at most the cap
 pub read_within : {part : List ℕ → Cut ℕ} {old new : Buffered} {files now : Option Files} {x : ℕ} → Reads IsCapped part old files (Ok x) new now → x ≤ cap
 read_within r = let (e, a, is, takes, settled) = r.gives in omega (arith, is)

@@ -1,4 +1,4 @@
--- The header of a gray page, read part by part.
+-- Reading the header of a gray page part by part gives the header.
 use Rattle.std.proofs.Common.{refl, ℕ, Bool, true, false, [], ◌++◌, ap, sym, ◌∙◌, subst, Option, Result, Ok, Err, append-nil}
 use Rattle.pt_core.specs.Files.{Files}
 use Rattle.bitmap_input.specs.declared.stop.Stop.{Stop}
@@ -19,9 +19,9 @@ use Rattle.bitmap_input.specs.Inner.Reading.{Same, StopsBy, Reads}
 use Rattle.bitmap_input.specs.Reading.Cause.{Says}
 use Rattle.bitmap_input.specs.GrayRows.{gray_alone, gray_kind, gray_magic, header_end, gray_header_behind, gray_header, gray_row}
 use Rattle.bitmap_input.specs.Inner.GrayRows.{ChecksKind}
-use Rattle.bitmap_input.proofs.Appending.{Stays, stays_bind, stop_stays, take_stays, magic_stays, space_stays, spaces_stay, sides_stay, maxval_stays, times_stay, plain_sample_stays, raw_samples_row_stays}
-use Rattle.bitmap_input.proofs.Needing.{needs_none}
-use Rattle.bitmap_input.proofs.Telling.{stand, not_true}
+use Rattle.bitmap_input.proofs.AddedBytes.{Stays, stays_bind, stop_stays, take_stays, magic_stays, space_stays, spaces_stay, sides_stay, maxval_stays, times_stay, plain_sample_stays, raw_samples_row_stays}
+use Rattle.bitmap_input.proofs.NeededBytes.{needs_none}
+use Rattle.bitmap_input.proofs.ComposedSteps.{stand, not_true}
 
 gray_alone_stays : (plain : Bool) (c : Channels) → Stays (gray_alone plain c)
 gray_alone_stays plain Gray = take_stays false plain

@@ -1,4 +1,4 @@
--- A step of the reader with how it leaves the inputs.
+-- A step of the reader, with the state in which it leaves the inputs.
 use Rattle.std.proofs.Common.{List, ℕ, Result}
 use Rattle.pt_core.specs.declared.inputs.Inputs.{Ghosts}
 use Rattle.bitmap_input.specs.declared.stop.Stop.{Stop}

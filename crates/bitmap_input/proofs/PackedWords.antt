@@ -1,4 +1,4 @@
--- Eight pixels of a byte each become one byte by a product, and eight such bytes a word.
+-- A product packs eight pixels of one byte each into one byte, and eight such bytes make a word.
 use Rattle.std.proofs.Common.{◌≡◌, refl, ℕ, zero, suc, ◌+◌, ◌-◌, ◌*◌, ◌/◌, ◌%◌, ◌^◌, ◌≤◌, ◌<◌, inl, inr, Bool, true, false, ◌&&◌, ◌||◌, List, [], ◌∷◌, length, map, get_or, set, arith, ap, sym, ◌∙◌, w64}
 use Rattle.std.specs.Prelude.{nat_eq, nat_lt, nat_le, min, not}
 use Rattle.std.specs.Int.{bit_at, from_le_bytes}
@@ -13,16 +13,16 @@ use Rattle.std.proofs.lemmas.List.{get_or-set_other, get_or_past}
 use Rattle.bit_image.proofs.Bits.{is_one-zero, is_one-xor, is_one-mask, within-inside, differ-true}
 use Rattle.bit_image.proofs.Turned.{is_one-or, is_one-shl, is_one-shl_below}
 
--- the number whose bits are these, the first one the least
+-- the number that has these bits, the least significant one first
 abbrev number_of : List Bool → ℕ
 number_of [] = 0
 number_of (b ∷ bs) = number_of bs * 2 ^ 1 + bool_byte b
 
--- what the product makes of eight bytes that are 0 or 1
+-- the product of eight bytes that are 0 or 1
 abbrev gathered : List ℕ → ℕ
 gathered bytes = from_le_bytes w64 bytes * 72624976668147840 % 2 ^ 64 / 2 ^ 56
 
--- whether all lists of so many pixels meet a test
+-- all lists of n pixels pass a test
 abbrev every : ℕ → (List Bool → Bool) → Bool
 every zero f = f []
 every (suc n) f = every n (λ bs. f (true ∷ bs)) && every n (λ bs. f (false ∷ bs))
@@ -54,7 +54,7 @@ is_one-number (b ∷ bs) (suc k) =
     ap (λ n. nat_eq n 1) (bit_at_cat_high (number_of bs) 1 (bool_byte b) (suc k) (small b) (omega arith) ∙ ap (bit_at (number_of bs)) behind) ∙
     is_one-number bs k
 
--- eight pixels from a place on, and none behind them
+-- the eight pixels from an index on, and none after them
 pub eight_at : (pixels : List Bool) (at k : ℕ) →
     get_or (get_or pixels at false ∷ get_or pixels (at + 1) false ∷ get_or pixels (at + 2) false ∷ get_or pixels (at + 3) false
     ∷ get_or pixels (at + 4) false ∷ get_or pixels (at + 5) false ∷ get_or pixels (at + 6) false ∷ get_or pixels (at + 7) false ∷ []) k false
@@ -81,11 +81,11 @@ nearer k n h = elim (cases_lt k (n + 8)) [
   | inr more ↦ le-ltb (k - n) 8 (omega arith) ∙ sym (le-ltb k (n + 8) more)
 ]
 
--- the first pixels of a word are these
+-- the first n pixels of a word
 abbrev pub HasFirst : (ℕ → Bool) → ℕ → ℕ → Type 0
 HasFirst f word n = (k : ℕ) → k < 64 → is_one word k ≡ nat_lt k n && f k
 
--- and eight more
+-- eight more pixels of a word
 pub eight_more : (f : ℕ → Bool) (word byte n : ℕ) → HasFirst f word n → ((k : ℕ) → is_one byte k ≡ nat_lt k 8 && f (n + k)) →
     HasFirst f (bit_or word (byte * 2 ^ n % 2 ^ 64)) (n + 8)
 eight_more f word byte n first eight = λ k h. is_one-or word (byte * 2 ^ n % 2 ^ 64) k ∙ elim (cases_lt k n) [
@@ -98,12 +98,12 @@ eight_more f word byte n first eight = λ k h. is_one-or word (byte * 2 ^ n % 2 
       is_one-shl byte n k h more ∙ eight (k - n) ∙ ap (λ u. nat_lt (k - n) 8 && f u) place ∙ ap (λ t. t && f k) (nearer k n more)
 ]
 
--- all pixels of a word inverted
+-- all pixels of a word, inverted
 pub flipped : (word k : ℕ) → k < 64 → is_one (bit_xor word (2 ^ 64 - 1)) k ≡ not (is_one word k)
 flipped word k h =
     is_one-xor word (2 ^ 64 - 1) k ∙ differ-true (is_one word k) _ (is_one-mask 0 64 k ∙ within-inside 0 64 k (omega arith) h)
 
--- a list that is filled one place after another
+-- a list that is filled one index after another
 pub filled_more : {X : Type 0} (d : X) (xs : List X) (i : ℕ) (v : X) (f : ℕ → X) → i < length xs → ((k : ℕ) → k < i → get_or xs k d ≡ f k) → v ≡ f i →
     (k : ℕ) → k < i + 1 → get_or (set xs i v) k d ≡ f k
 filled_more d xs i v f within so_far same k h = elim (cases_eq k i) [
@@ -111,7 +111,7 @@ filled_more d xs i v f within so_far same k h = elim (cases_eq k i) [
   | inr e ↦ get_or-set_other xs i k v d e ∙ so_far k (omega arith)
 ]
 
--- a limit that no number exceeds needn't be greater
+-- a limit above the greatest number can be lowered to it
 pub capped : (v limit most : ℕ) → v ≤ most → nat_le v (min limit most) ≡ nat_le v limit
 capped v limit most h = elim (cases_lt limit v) [
   | inl less ↦ lt-leb v (min limit most) (omega arith) ∙ sym (lt-leb v limit less)

@@ -1,4 +1,4 @@
--- The rows of a raster, painted on a white page, are the page that the raw page shows.
+-- The rows of a raster, written to a white page, give the page that the raw page shows.
 use Rattle.std.proofs.Common.{◌≡◌, refl, ℕ, zero, suc, ◌-◌, ◌≤◌, ◌<◌, inl, inr, Bool, true, false, List, [], ◌∷◌, ◌++◌, length, map, get_or, arith, ap, sym, ◌∙◌, Option, Result, Ok, Err}
 use Rattle.std.specs.Prelude.{nat_lt}
 use Rattle.std.proofs.Math.Path.{fun_ext}
@@ -16,9 +16,9 @@ use Rattle.bitmap_input.specs.Raw.{Entry, entries_page, black, picture_of, shown
 use Rattle.bitmap_input.specs.Inner.Raster.{with_row, with_rows}
 use Rattle.bitmap_input.specs.Reading.{Buffered}
 use Rattle.bitmap_input.specs.Inner.Reading.{Reads}
-use Rattle.bitmap_input.proofs.Placing.{with_pixels-at, with_pixels-other}
+use Rattle.bitmap_input.proofs.PaintedRows.{with_pixels-at, with_pixels-other}
 
--- above the rows nothing is painted
+-- nothing is written above the rows
 rows_above : (b : Image) (h u v : ℕ) (rows : List (List Bool)) → h ≤ v → with_rows b h rows u v ≡ b u v
 rows_above b zero u v [] above = refl
 rows_above b (suc y) u v [] above = refl
@@ -26,7 +26,7 @@ rows_above b zero u v (r ∷ rs) above = refl
 rows_above b (suc y) u v (r ∷ rs) above =
     rows_above (with_row b y r) y u v rs (omega arith) ∙ with_pixels-other b y 0 u v r (λ e _ _. omega arith)
 
--- a row on a white one
+-- a row written to a white row
 pub row_at : (b : Image) (y u : ℕ) (r : List Bool) → b u y ≡ false → with_row b y r u y ≡ get_or r u false
 row_at b y u r maxval = elim (cases_lt u (length r)) [
   | inl h ↦ with_pixels-at b y 0 u u r (omega arith) h
@@ -50,7 +50,7 @@ rows_at b (suc y) u v (r ∷ rs) maxval len within = elim (cases_lt v y) [
 ]
 
 module _ {A : Type 0} (level : ℕ) (invert : Bool) (entry : A → Entry) (f : A → Bool) (is : (a : A) → black level invert (entry a) ≡ f a) where
-  -- the pixels of a row of values that each stand for an entry
+  -- the pixels of a row of values, each of them an entry
   black-entries : (row : List A) → map (black level invert) (map entry row) ≡ map f row
   black-entries [] = refl
   black-entries (a ∷ row) = ap (λ p. p ∷ map (black level invert) (map entry row)) (is a) ∙ ap (λ ps. f a ∷ ps) (black-entries row)
@@ -71,7 +71,7 @@ module _ {A : Type 0} (level : ℕ) (invert : Bool) (entry : A → Entry) (f : A
         rw test (rows_above b h u v (map (map f) rows) above ∙ maxval u v)
   ]
 
-  -- the page that was painted
+  -- the page that was written
   pub shown_rows : (p : Pixels) (b : Image) (w h : ℕ) (rows : List (List A)) → p ≡ page_of p.width p.height (image_of p) →
       p.width ≡ w → p.height ≡ h → IsWhite b → length rows ≡ h → image_of p ≡ with_rows b h (map (map f) rows) →
       p ≡ shown level invert (entries_page entry w h rows)
@@ -80,7 +80,7 @@ module _ {A : Type 0} (level : ℕ) (invert : Bool) (entry : A → Entry) (f : A
       = painted ∙ fun_ext (λ u. fun_ext (λ v. picture_at b w h u v rows maxval len)) in
       whole ∙ ap (λ w. page_of w p.height (image_of p)) width ∙ ap (λ h. page_of w h (image_of p)) height ∙ ap (page_of w h) image
 
--- A part that is read so many times has so many values.
+-- A part that is read n times has n values.
 
 pub after_takes : {A : Type 0} (d e : Bool) (c : Cut A) (x : A) (rest : List ℕ) → after d c ≡ Takes e x rest →
     (f : Bool) × (c ≡ Takes f x rest)

@@ -1,4 +1,4 @@
--- What a part leaves is the end of what it was given.
+-- What a part leaves are the last bytes of its list.
 use Rattle.std.proofs.Common.{◌≡◌, refl, ℕ, ◌*◌, zero, suc, Bool, true, false, cond, ◌||◌, List, [], ◌∷◌, ◌++◌, length, take, drop, ap, sym, ◌∙◌, append_assoc, Option, Some, None}
 use Rattle.std.specs.Prelude.{nat_eq, nat_lt}
 use Rattle.std.proofs.lemmas.List.{take-append-drop}
@@ -12,14 +12,14 @@ use Rattle.bitmap_input.specs.Front.{Magic, no_magic, magic_of_name, magic_named
 use Rattle.bitmap_input.specs.Samples.{samples_in, plain_sample, plain_samples, is_wide, sample_bytes, samples, grouped, raw_samples_row}
 use Rattle.bitmap_input.specs.declared.channels.Channels.{Channels}
 use Rattle.bitmap_input.specs.declared.channels.Channels.TheVariants.{Gray, Color}
-use Rattle.bitmap_input.proofs.Showing.{after_takes}
+use Rattle.bitmap_input.proofs.RasterPages.{after_takes}
 use Rattle.pt_core.specs.declared.limits.TheConstants.{LONGEST_SIDE}
 
--- a list ends with this one
+-- a list ends with these bytes
 abbrev pub IsRest : List ℕ → List ℕ → Type 0
 IsRest rest bytes = (front : List ℕ) × (bytes ≡ front ++ rest)
 
--- what the cut of these bytes leaves is their end
+-- what the cut of these bytes leaves are their last ones
 abbrev pub LeavesEnd : {A : Type 0} → List ℕ → Cut A → Type 0
 LeavesEnd {A = A} bytes c = (e : Bool) (a : A) (rest : List ℕ) → c ≡ Takes e a rest → IsRest rest bytes
 

@@ -1,4 +1,4 @@
--- Pixels that are painted in a row one after another, and rows one below another.
+-- Pixels written to a row one after another, and rows written one below another.
 use Rattle.std.proofs.Common.{◌≡◌, refl, ℕ, zero, suc, ◌+◌, ◌*◌, ◌≤◌, ◌<◌, inl, inr, Bool, true, false, List, [], ◌∷◌, length, get_or, arith, ◌∙◌}
 use Rattle.std.specs.Prelude.{nat_eq}
 use Rattle.std.proofs.lemmas.List.{length-append}
@@ -7,7 +7,7 @@ use Rattle.bit_image.specs.Image.{Image, with_pixel}
 use Rattle.bitmap_input.specs.Raw.{bits_of, unpacked}
 use Rattle.bitmap_input.specs.Inner.Raster.{with_pixels, with_row, with_rows}
 
--- a pixel elsewhere
+-- a pixel that isn't written
 with_pixel-other : (b : Image) (x y u v : ℕ) (p : Bool) → (x ≡ u → y ≡ v → ⊥) → with_pixel b x y p u v ≡ b u v
 with_pixel-other b x y u v p other = elim (cases_eq x u) [
   | inl e ↦
@@ -24,7 +24,7 @@ with_pixels-other b y x u v (p ∷ ps) other =
     with_pixels-other (with_pixel b x y p) y (suc x) u v ps (λ e f g. other e (omega arith) (omega arith)) ∙
     with_pixel-other b x y u v p (λ e f. other f (omega arith) (omega arith))
 
--- one of them
+-- a pixel that is written
 pub with_pixels-at : (b : Image) (y x u k : ℕ) (ps : List Bool) → u ≡ x + k → k < length ps →
     with_pixels b y x ps u y ≡ get_or ps k false
 with_pixels-at b y x u k [] at within = absurd (omega arith)

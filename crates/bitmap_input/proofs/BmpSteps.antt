@@ -1,4 +1,4 @@
--- Steps that read the header of a BMP picture.
+-- The steps that read the header of a BMP picture, and their checks.
 use Rattle.std.proofs.lemmas.List.{length-append}
 use Rattle.std.proofs.Common.{◌≡◌, refl, ◌+◌, ◌-◌, ◌<◌, arith, length, Bool, true, false, List, [], ◌++◌, sym, subst, Option, Result, Ok, Err, ap, ◌∙◌, append-nil, ℕ}
 use Rattle.pt_core.specs.Files.{Files}
@@ -18,8 +18,8 @@ use Rattle.std.specs.Prelude.{nat_le}
 use Rattle.std.proofs.lemmas.Bool.{lt-leb}
 use Rattle.bitmap_input.specs.Inner.BmpHead.{Passes, IsHeaderStart, IsInfo, IsWholeHeader}
 use Rattle.bitmap_input.proofs.BmpLengths.{info_grown, masks_grown, bits_grown, info_has}
-use Rattle.bitmap_input.proofs.Needing.{needs_none}
-use Rattle.bitmap_input.proofs.Telling.{not_true, stand}
+use Rattle.bitmap_input.proofs.NeededBytes.{needs_none}
+use Rattle.bitmap_input.proofs.ComposedSteps.{not_true, stand}
 
 -- a check as a step that reads nothing
 pub reads_passes : {X A : Type 0} {is : X → A → Type 0} {part : List ℕ → Cut A} {held : Buffered} {files : Option Files} {result : Result X Stop} →
@@ -48,14 +48,14 @@ pub not_passed : {X A : Type 0} (is : X → A → Type 0) {held : Buffered} {fil
     cause_of s ≡ Says (Refused kind) → Reads {X = X} is (passes kind t a) held files (Err s) held files
 not_passed is s kind t a test cause = reads_passes (Refused kind, cause, λ bytes. rw test refl)
 
--- the sides are in range, and the pixels begin too soon
+-- the sides are in range, and the pixels begin too early
 pub placed_too_soon : (head : List ℕ) → ((bytes : List ℕ) → checked (width head) (height head) bytes ≡ Takes false (width head, height head) bytes) →
     pixel_offset head < palette_end head → (bytes : List ℕ) → placed head bytes ≡ Stops false (Refused BadOffset)
 placed_too_soon head in_range soon bytes =
     let test : nat_le (palette_end head) (pixel_offset head) ≡ false = lt-leb (palette_end head) (pixel_offset head) soon in
     rw (in_range bytes, test) refl
 
--- The header's bytes as they are read.
+-- The header's bytes while they are read.
 
 module _ (old new : List ℕ) (n : ℕ) {held held2 : Buffered} {files files2 : Option Files} (r : Reads {X = Unit {0}} (λ _ more. new ≡ old ++ more) (block n) held files (Ok (tt {0})) held2 files2) (reach : length new ≡ length old + n) where
   -- the bytes that were read

@@ -1,4 +1,4 @@
--- What the reading of a page says of the reader's answer.
+-- The result of reading a page, together with what was held, is the reader's result.
 use Rattle.std.proofs.Common.{◌≤◌, arith, ◌⊎◌, inl, inr, ◌≡◌, refl, ℕ, ◌+◌, ◌-◌, Bool, true, false, List, [], ◌++◌, length, drop, ap, sym, ◌∙◌, subst, Option, Some, None, IfSome, Result, Ok, Err, append-nil}
 use Rattle.std.proofs.lemmas.List.{drop-append-le, drop-drop}
 use Rattle.std.proofs.Math.Seq.{drop-length}
@@ -25,13 +25,13 @@ use Rattle.bitmap_input.specs.Inner.Reading.{cause_of, StopsBy, Reads, CountsBy}
 use Rattle.bitmap_input.specs.Reading.Cause.{Says, Device, Memory}
 use Rattle.bitmap_input.specs.Reader.{Reader, is_later, ahead, Answers, GivesPage, GivesEnding, ReadFails, MemoryFails, TellsPage, IfSays, IsAnswer}
 use Rattle.bitmap_input.proofs.FrontStays.{front_stays}
-use Rattle.bitmap_input.proofs.Needing.{needs_as}
+use Rattle.bitmap_input.proofs.NeededBytes.{needs_as}
 use Rattle.bitmap_input.proofs.Rests.{none_left, rest_after, taken_first, where_told}
-use Rattle.bitmap_input.proofs.Telling.{not_true}
+use Rattle.bitmap_input.proofs.ComposedSteps.{not_true}
 use Rattle.bitmap_input.proofs.FrontKeeps.{rest_behind}
 use Rattle.bitmap_input.proofs.Behind.{forget, forget-page, is_by_end-forget, stops_forget, begins_behind, front_within, begins_with_more, ahead_with_more}
 
--- a reader that holds this
+-- a reader that holds these bytes
 abbrev pub reader_of : Buffered → ℕ → ℕ → Bool → Reader
 reader_of h skip pages over = record { bytes = h.bytes; skip = skip; pages = pages; ended = h.ended; over = over }
 
@@ -39,7 +39,7 @@ if_nothing : (o : Option (List ℕ)) → IfSome o (λ _. Unit {0})
 if_nothing None = tt
 if_nothing (Some rest) = tt
 
--- what is said of an ending holds where there is one
+-- a fact that holds for each ending holds if there is an ending
 pub if_says : (why : Cause) (P : FileEnd → Type 0) → ((ending : FileEnd) → why ≡ Says ending → P ending) → IfSays why P
 if_says (Says ending) P each = each ending refl
 if_says Device P each = tt
@@ -48,7 +48,7 @@ if_says Memory P each = tt
 left_over : (used n : ℕ) → n ≡ (used + n) - used
 left_over used n = omega arith
 
--- the bytes behind the used ones and then behind the skipped ones
+-- the bytes after those used, and then after those skipped
 left_behind : (used skipped begins : ℕ) (taken tail : List ℕ) → used ≤ length taken → used ≤ begins → skipped ≡ begins - used →
     drop skipped (drop used taken ++ tail) ≡ drop begins (taken ++ tail)
 left_behind used skipped begins taken tail within least is =
@@ -62,11 +62,11 @@ module _ (level : ℕ) (invert : Bool) (h h2 : Buffered) (skip skip2 pages pages
   abbrev pub new : Reader
   new = reader_of h2 skip2 pages2 over
 
-  -- what was read, as the bytes say it
+  -- what was read is what the bytes say
   abbrev pub ReadsAhead : Result ReadPage Stop → Type 0
   ReadsAhead result = Reads (IsRead level invert) (λ bytes. counted_page (is_later old) (drop skip bytes)) h before result h2 now
 
-  -- what the page needs with its count, it needs without
+  -- if the page with its count needs the bytes, so does the page without it
   needed_ahead : {more : List ℕ} → AreNeeded (λ bytes. counted_page (is_later old) (ahead old bytes)) more →
       AreNeeded (λ bytes. page_at (is_later old) (ahead old bytes)) more
   needed_ahead n =
@@ -98,7 +98,7 @@ module _ (level : ℕ) (invert : Bool) (h h2 : Buffered) (skip skip2 pages pages
         going_on = going_on;
       }
 
-  -- why no page was read, as the bytes say it
+  -- why no page was read is what the bytes say
   stops_ahead : (stop : Stop) → (r : ReadsAhead (Err stop)) → StopsBy (page_at (is_later old) (ahead old r.more)) (cause_of stop) h2
   stops_ahead stop r =
       subst (λ c. StopsBy c (cause_of stop) h2) (forget-page (is_later old) (ahead old r.more))
@@ -129,7 +129,7 @@ module _ (level : ℕ) (invert : Bool) (h h2 : Buffered) (skip skip2 pages pages
   wants_memory stop r counted is_over =
       record { more = r.more; moves = r.moves; needed = needed_ahead r.needed; counted = counted; over = is_over }
 
-  -- the bytes ahead, where the rest is told: those that were taken and what follows them
+  -- the bytes ahead, if the rest is known: those that were read and those that follow them
   ahead_told : {answer : Answer} (t : Bool) (rest : List ℕ) → (h.ended ≡ true → AtEnd before) → unread before ≡ Some rest →
       (a : Answers old before answer new now) → is_by_end (page_at (is_later old) (ahead old a.more)) ≡ t →
       ahead old rest ≡ ahead old a.more ++ drop (length a.more) rest
@@ -140,7 +140,7 @@ module _ (level : ℕ) (invert : Bool) (h h2 : Buffered) (skip skip2 pages pages
   ahead_told false rest at_end is a test =
       ap (drop skip) (taken_first h h2 before now a.more rest at_end is a.moves).1 ∙ ahead_with_more skip (is_later old) (h.bytes ++ a.more) (drop (length a.more) rest) test
 
-  -- what the bytes that were taken say, the whole rest says
+  -- what the bytes read say, the whole rest says
   answer_told : {answer : Answer} (t : Bool) (rest : List ℕ) → (h.ended ≡ true → AtEnd before) → unread before ≡ Some rest →
       (a : Answers old before answer new now) → is_by_end (page_at (is_later old) (ahead old a.more)) ≡ t →
       front (is_later old) (ahead old rest) ≡ answer
@@ -180,16 +180,16 @@ module _ (level : ℕ) (invert : Bool) (h h2 : Buffered) (skip skip2 pages pages
       where_told (unread before) (λ rest. front (is_later old) (ahead old rest) ≡ Ends ending) (λ rest is.
       answer_told (is_by_end (page_at (is_later old) (ahead old gives.answers.more))) rest at_end is gives.answers refl)
 
-  -- the same of a fault that the bytes say
+  -- a fault that the bytes read say, the whole rest says
   pub told_says : (why : Cause) → (h.ended ≡ true → AtEnd before) → ((ending : FileEnd) → why ≡ Says ending → GivesEnding old before ending new now) →
       IfSome (unread before) (λ rest. IfSays why (λ ending. front (is_later old) (ahead old rest) ≡ Ends ending))
   told_says (Says ending) at_end gives = told_ending at_end (gives ending refl)
   told_says Device at_end gives = if_nothing (unread before)
   told_says Memory at_end gives = if_nothing (unread before)
 
--- Where no read failed, the answer comes.
+-- If no read failed, there is a result.
 
--- what is owed where the rest is told: the answer that it gives, or that memory is wanting
+-- if the rest is known and no read failed, the result is the one that it gives, or memory ran out
 abbrev pub Comes : ℕ → Bool → Result Next InFault → Reader → Option (List ℕ) → ℕ → ℕ → Type 0
 Comes level invert result reader rest_of before now = IfSome rest_of (λ rest. reader.over ≡ false → (Rose before now → ⊥) →
     IsAnswer level invert result (front (is_later reader) (ahead reader rest)) ⊎ IsErrOf result fault.NoMemory)

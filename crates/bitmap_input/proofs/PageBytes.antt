@@ -1,4 +1,4 @@
--- What a page takes are bytes of its parts, one behind another.
+-- What a page takes are the bytes of its parts, one after another.
 use Rattle.std.proofs.Common.{◌≡◌, refl, ℕ, zero, suc, ◌-◌, ◌*◌, ◌≤◌, inl, inr, Bool, true, false, cond, ◌||◌, List, [], ◌∷◌, ◌++◌, length, take, drop, map, arith, ap, sym, ◌∙◌, subst, append_assoc, append-nil, Some, None, Option}
 use Rattle.std.specs.Prelude.{nat_eq, nat_lt, nat_le}
 use Rattle.std.specs.List.{range_with_len}
@@ -25,12 +25,12 @@ use Rattle.bitmap_input.specs.declared.channels.Channels.TheVariants.{Gray, Colo
 use Rattle.bitmap_input.specs.Front.Answer.{Page}
 use Rattle.bitmap_input.specs.Front.Magic.{PlainBits, RawBits, PlainSamples, RawSamples, Picture}
 use Rattle.bitmap_input.specs.PageText.{IsJoined, IsRepeated, IsBlock, IsSpace, IsSomeGap, IsNumber, IsNumberBehindGap, AreSides, IsPixel, IsPlainPixel, IsPlainSample, ArePlainSamples, IsMagic, IsBody, IsPageText}
-use Rattle.bitmap_input.proofs.Showing.{after_takes}
+use Rattle.bitmap_input.proofs.RasterPages.{after_takes}
 use Rattle.bitmap_input.proofs.Bytes.{run_length-le, gap_length-le}
 use Rattle.bitmap_input.proofs.Longest.{run_is_run, gap_is_gap}
 use Rattle.pt_core.specs.declared.limits.TheConstants.{LONGEST_SIDE}
 
--- what the cut takes of these bytes, for a value, is in the value's set
+-- the bytes that the cut takes for a value belong to the value's set
 abbrev Spells : {A : Type 0} → (A → List ℕ → Type 0) → List ℕ → Cut A → Type 0
 Spells {A = A} S bytes c = (e : Bool) (a : A) (rest : List ℕ) → c ≡ Takes e a rest → (taken : List ℕ) × (bytes ≡ taken ++ rest) × S a taken
 
@@ -49,7 +49,7 @@ spells_if : {A : Type 0} (S : A → List ℕ → Type 0) (bytes : List ℕ) (t :
 spells_if S bytes true c d first second = first refl
 spells_if S bytes false c d first second = second refl
 
--- one part behind another
+-- one part after another
 spells_bind : {A B : Type 0} (S : A → List ℕ → Type 0) (T : A → B → List ℕ → Type 0) (U : B → List ℕ → Type 0) (bytes : List ℕ) (c : Cut A) (g : A → List ℕ → Cut B) →
     Spells S bytes c → ((x : A) (rest : List ℕ) → Spells (T x) rest (g x rest)) →
     ((x : A) (y : B) (one two : List ℕ) → S x one → T x y two → U y (one ++ two)) → Spells U bytes (c >>= g)
@@ -60,7 +60,7 @@ spells_bind S T U bytes (Takes d x mid) g first parts join e b rest h =
     (one.0 ++ two.0, one.1 ∙ ap (λ xs. one.0 ++ xs) two.1 ∙ sym (append_assoc one.0 two.0 rest), join x b one.0 two.0 one.2 two.2)
 spells_bind S T U bytes (Stops d ending) g first parts join e b rest h = cc
 
--- a part whose value is made into another one
+-- a part with a value that is turned into another one
 spells_made : {A B : Type 0} (S : A → List ℕ → Type 0) (U : B → List ℕ → Type 0) (f : A → B) (bytes : List ℕ) (c : Cut A) → Spells S bytes c →
     ((x : A) (one : List ℕ) → S x one → U (f x) one) → Spells U bytes (c >>= λ x rest. Takes false (f x) rest)
 spells_made S U f bytes c first made =
@@ -68,7 +68,7 @@ spells_made S U f bytes c first made =
     (λ x rest. spells_take (λ y two. (two ≡ []) × (y ≡ f x)) rest false (f x) rest [] refl (refl, refl))
     (λ x y one two is last. subst (λ z. U z (one ++ two)) (sym last.1) (subst (U (f x)) (sym (ap (λ xs. one ++ xs) last.0 ∙ append-nil one)) (made x one is)))
 
--- the value is what was taken, and is in a set
+-- the value is what was taken, and belongs to a set
 abbrev Itself : (List ℕ → Type 0) → List ℕ → List ℕ → Type 0
 Itself P x taken = (taken ≡ x) × P taken
 
@@ -153,7 +153,7 @@ spells_no_magic : (S : Magic → List ℕ → Type 0) (bytes : List ℕ) (e late
 spells_no_magic S bytes e true = spells_stop S bytes e Trailing
 spells_no_magic S bytes e false = spells_stop S bytes e (Refused UnknownFormat)
 
--- the second byte of a magic, behind the first one
+-- the second byte of a magic number, after the first one
 abbrev IsSecond : ℕ → Magic → List ℕ → Type 0
 IsSecond a m bytes = (b : ℕ) × (bytes ≡ b ∷ []) × (magic_named a b ≡ Some m)
 
@@ -188,7 +188,7 @@ spells_checked w h bytes =
     (λ _. spells_if (IsNothing (w, h)) bytes (nat_lt LONGEST_SIDE w || nat_lt LONGEST_SIDE h) (Stops false (Refused TooLarge)) (Takes false (w, h) bytes)
     (λ _. spells_stop (IsNothing (w, h)) bytes false (Refused TooLarge)) (λ _. spells_take (IsNothing (w, h)) bytes false (w, h) bytes [] refl (refl, refl)))
 
--- nothing more behind it
+-- nothing more follows
 and_nothing : (P : List ℕ → Type 0) (one two : List ℕ) → two ≡ [] → P one → P (one ++ two)
 and_nothing P one two none is = subst P (sym (ap (λ xs. one ++ xs) none ∙ append-nil one)) is
 
@@ -215,7 +215,7 @@ spells_maxval bytes =
     (λ _. spells_stop (IsNothing n) rest false (Refused BadHeader)) (λ _. spells_take (IsNothing n) rest false n rest [] refl (refl, refl)))
     (λ n m one two is last. subst (λ k. IsNumberBehindGap k (one ++ two)) (sym last.1) (and_nothing (IsNumberBehindGap n) one two last.0 is))
 
--- rows as a page of these sides
+-- rows as a page with these sides
 abbrev IsRows : (List ℕ → Type 0) → ℕ → ℕ → Raw → List ℕ → Type 0
 IsRows P w h raw bytes = (raw.width ≡ w) × (raw.height ≡ h) × IsRepeated P h bytes
 
@@ -231,7 +231,7 @@ spells_block_row n f bytes = spells_made (Itself (IsBlock n)) (λ _. IsBlock n) 
 spells_plain_sample : (bytes : List ℕ) → Spells (λ _. IsPlainSample) bytes (plain_sample bytes)
 spells_plain_sample bytes e v rest h = let s = spells_number_behind_gap BadRaster bytes e v rest h in (s.0, s.1, (v, s.2))
 
--- a sample, and what stands behind it
+-- a sample, and what follows it
 spells_first : {A : Type 0} (n : ℕ) (bytes : List ℕ) (g : ℕ → List ℕ → Cut A) → ((v : ℕ) (rest : List ℕ) → Spells (λ _. IsRepeated IsPlainSample n) rest (g v rest)) →
     Spells (λ _. IsRepeated IsPlainSample (suc n)) bytes (plain_sample bytes >>= g)
 spells_first n bytes g parts =
@@ -248,12 +248,12 @@ spells_plain_samples Color bytes =
     (λ g rest. spells_first 0 rest (λ b rest. Takes false (r, g, b) rest)
     (λ b rest. spells_take (λ _ taken. taken ≡ []) rest false (r, g, b) rest [] refl refl)))
 
--- What follows a magic.
+-- What follows a magic number.
 
 abbrev Rows : (ℕ → List ℕ → Type 0) → Raw → List ℕ → Type 0
 Rows P raw bytes = IsRepeated (P raw.width) raw.height bytes
 
--- the sides, and what stands behind them
+-- the sides, and what follows them
 sides_and : (Q : Raw → List ℕ → Type 0) (s : ℕ × ℕ) (raw : Raw) (one two : List ℕ) → raw.width ≡ s.0 → raw.height ≡ s.1 → IsPair s one → Q raw two →
     IsJoined (AreSides raw.width raw.height) (Q raw) (one ++ two)
 sides_and Q s raw one two wide high is rest = joined (AreSides raw.width raw.height) (Q raw) one two (rw (wide, high) is) rest
@@ -261,7 +261,7 @@ sides_and Q s raw one two wide high is rest = joined (AreSides raw.width raw.hei
 rows_of : (P : ℕ → List ℕ → Type 0) (w h : ℕ) (raw : Raw) (bytes : List ℕ) → IsRows (P w) w h raw bytes → Rows P raw bytes
 rows_of P w h raw bytes is = rw (is.0, is.1) is.2
 
--- what stands behind the sides, of these sides
+-- what follows the sides, for a page with these sides
 abbrev Sided : (Raw → List ℕ → Type 0) → ℕ × ℕ → Raw → List ℕ → Type 0
 Sided Q s raw bytes = (raw.width ≡ s.0) × (raw.height ≡ s.1) × Q raw bytes
 
@@ -277,14 +277,14 @@ spells_rows P entry row spells s bytes e raw rest h =
     let t = spells_raster (P s.0) entry (row s.0) (spells s.0) s.0 s.1 bytes e raw rest h in
     (t.0, t.1, (t.2.0, t.2.1, rows_of P s.0 s.1 raw t.0 t.2))
 
--- a part whose value doesn't matter, and what stands behind it
+-- a part with any value, and what follows it
 spells_behind : {A : Type 0} (P : List ℕ → Type 0) (Q : Raw → List ℕ → Type 0) (s : ℕ × ℕ) (bytes : List ℕ) (c : Cut A) (g : A → List ℕ → Cut Raw) → Spells (λ _. P) bytes c →
     ((x : A) (rest : List ℕ) → Spells (Sided Q s) rest (g x rest)) → Spells (Sided (λ raw. IsJoined P (Q raw)) s) bytes (c >>= g)
 spells_behind P Q s bytes c g first parts =
     spells_bind (λ _. P) (λ _. Sided Q s) (Sided (λ raw. IsJoined P (Q raw)) s) bytes c g first parts
     (λ x raw one two is rest. (rest.0, rest.1, joined P (Q raw) one two is rest.2))
 
--- the sample for white, and what stands behind it
+-- the sample for white, and what follows it
 abbrev WithWhite : (ℕ → Raw → List ℕ → Type 0) → Raw → List ℕ → Type 0
 WithWhite Q raw bytes = (maxval : ℕ) × IsJoined (IsNumberBehindGap maxval) (Q maxval raw) bytes
 
@@ -305,7 +305,7 @@ spells_passes : (kind : Kind) (t : Bool) (x bytes : List ℕ) → Spells (IsNoth
 spells_passes kind true x bytes = spells_take (IsNothing x) bytes false x bytes [] refl (refl, refl)
 spells_passes kind false x bytes = spells_stop (IsNothing x) bytes false (Refused kind)
 
--- the header up to here is what was at hand and what was taken
+-- the header up to here is what was held and what was taken
 abbrev Grown : List ℕ → List ℕ → List ℕ → Type 0
 Grown head x taken = x ≡ head ++ taken
 
@@ -346,7 +346,7 @@ spells_header bytes =
 plain_block : (n : ℕ) (bytes : List ℕ) → Spells (λ _. IsBlock n) bytes (block n bytes)
 plain_block n bytes e x rest h = let s = spells_block n bytes e x rest h in (s.0, s.1, s.2.1)
 
--- what stands behind the header
+-- what follows the header
 abbrev IsPicture : List ℕ → Raw → List ℕ → Type 0
 IsPicture head raw bytes =
     (raw.width ≡ width head) × (raw.height ≡ height head)

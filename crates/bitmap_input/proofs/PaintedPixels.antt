@@ -1,4 +1,4 @@
--- Values as the pixels that they stand for.
+-- Values written to a row as pixels.
 use Rattle.std.proofs.Common.{◌≡◌, refl, ℕ, ◌+◌, Bool, false, true, not, List, ◌∷◌, map, ap, sym, ◌∙◌}
 use Rattle.std.proofs.Common.{add-one}
 use Rattle.std.proofs.Math.Path.{fun_ext}
@@ -6,7 +6,7 @@ use Rattle.std.proofs.Math.Bool.{beq}
 use Rattle.bit_image.specs.Image.{Image, with_pixel, differ}
 use Rattle.bitmap_input.specs.Inner.Raster.{with_pixels}
 
--- one more value, as the pixel that it stands for
+-- one more value, written as its pixel
 pub pixel_painted : {A : Type 0} (f : A → Bool) (c c2 : Image) (x y : ℕ) (v : Bool) (a : A) →
     ((u w : ℕ) → c2 u w ≡ with_pixel c x y v u w) → f a ≡ v → (values : List A) →
     with_pixels c2 y (x + 1) (map f values) ≡ with_pixels c y x (map f (a ∷ values))

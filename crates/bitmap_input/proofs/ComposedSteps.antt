@@ -1,4 +1,4 @@
--- How steps of the reader compose: one after another, and what stops the first stops both.
+-- Two steps of the reader, one after another, make one step, and what stops the first one stops both.
 use Rattle.std.proofs.Common.{◌≡◌, refl, ℕ, ◌+◌, Bool, true, false, ◌||◌, inl, inr, List, [], ◌∷◌, ◌++◌, length, take, drop, ap, sym, ◌∙◌, subst, Option, Some, None, IfSome, option_map, Result, Ok, Err, append_assoc, append-nil}
 use Rattle.std.proofs.lemmas.List.{length-append, drop-drop}
 use Rattle.std.proofs.Math.Seq.{take-add}
@@ -7,16 +7,16 @@ use Rattle.bitmap_input.specs.declared.stop.Stop.{Stop}
 use Rattle.bitmap_input.specs.declared.stop.Stop.TheVariants as stop
 use Rattle.bitmap_input.specs.declared.fault.InFault.TheVariants as fault
 use Rattle.bitmap_input.specs.Cut.{FileEnd, Cut, is_by_end, after, ◌>>=◌}
-use Rattle.bitmap_input.proofs.Appending.{with_more}
+use Rattle.bitmap_input.proofs.AddedBytes.{with_more}
 use Rattle.bitmap_input.specs.Cut.Cut.{Takes, Stops}
 use Rattle.bitmap_input.specs.Reading.{Buffered, AtEnd, Moves, Cause}
 use Rattle.bitmap_input.specs.Inner.Reading.{cause_of, StopsBy, Gives, Reads}
 use Rattle.bitmap_input.specs.Reading.Cause.{Says, Device, Memory}
 use Rattle.bitmap_input.specs.Inner.Buffer.{ReadsOn}
-use Rattle.bitmap_input.proofs.Appending.{Stays, is_by_end-after}
-use Rattle.bitmap_input.proofs.Needing.{needs_none, needs_as, needs_behind, needs_first, by_end-bind, front_of_none}
+use Rattle.bitmap_input.proofs.AddedBytes.{Stays, is_by_end-after}
+use Rattle.bitmap_input.proofs.NeededBytes.{needs_none, needs_as, needs_behind, needs_first, by_end-bind, front_of_none}
 
--- Reading twice is reading both.
+-- Two reads, one after another, read the bytes of both.
 
 taken-taken : (m n : ℕ) (file : Option Opened) →
     option_map (taken_of n) (option_map (taken_of m) file) ≡ option_map (taken_of (m + n)) file
@@ -90,7 +90,7 @@ move_on {e} {e2} {e3} {f} {f2} {f3} {more} {more2} a b =
       ];
     }
 
--- What a cut gives when the one before it was by the end or not.
+-- The cut of a second part, if the first part was by the end of the list or not.
 
 pub not_true : false ≡ true → ⊥
 not_true h = cc
@@ -117,7 +117,7 @@ after_gives is true cut (Ok x) held ended (e, a, same, takes, settled) = (true, 
 after_gives is false cut (Ok x) held ended (e, a, same, takes, settled) = (e, a, same, ap (after false) takes, settled)
 after_gives is d cut (Err s) held ended stops = after_stops d cut (cause_of s) held ended stops
 
--- the first part, answered before more bytes came, is the same with them
+-- the first part stays the same with the bytes that come later
 first_stays : {A : Type 0} (part : List ℕ → Cut A) (e : Bool) (a : A) (bytes rest more : List ℕ) → Stays part →
     part bytes ≡ Takes e a rest → (e ≡ true → more ≡ []) → part (bytes ++ more) ≡ Takes e a (rest ++ more)
 first_stays part true a bytes rest more stays is none =
@@ -172,7 +172,7 @@ reads_stop {part = part} {old = old} {new = new} {s = s} next r = record {
   gives = stops_bind (part (old.bytes ++ r.more)) next (cause_of s) new r.gives;
 }
 
--- a value at hand
+-- a value without a read
 pub reads_value : {B Y : Type 0} {js : Y → B → Type 0} {y : Y} {b : B} {held : Buffered} {files : Option Files} →
     js y b → Reads js (λ bytes. Takes false b bytes) held files (Ok y) held files
 reads_value {b = b} {held = held} {files = files} same = record {
@@ -182,7 +182,7 @@ reads_value {b = b} {held = held} {files = files} same = record {
   gives = (false, b, same, ap (Takes false b) (append-nil held.bytes), λ h. absurd (not_true h));
 }
 
--- a step whose value says less
+-- a step with a weaker statement about its value
 pub reads_weaken : {A X : Type 0} {is js : X → A → Type 0} {part : List ℕ → Cut A} {old new : Buffered} {files now : Option Files}
     {result : Result X Stop} → ((x : X) (a : A) → is x a → js x a) → Reads is part old files result new now →
     Reads js part old files result new now
@@ -191,12 +191,12 @@ reads_weaken {result = Ok x} less r =
     record { more = r.more; moves = r.moves; needed = r.needed; gives = (e, a, less x a same, takes, settled) }
 reads_weaken {result = Err s} less r = record { more = r.more; moves = r.moves; needed = r.needed; gives = r.gives }
 
--- a step that stopped, whatever its value would be
+-- a step that stopped, for any kind of value
 pub reads_failed : {A X Y : Type 0} {is : X → A → Type 0} {js : Y → A → Type 0} {part : List ℕ → Cut A} {old new : Buffered} {files now : Option Files}
     {s : Stop} → Reads is part old files (Err s) new now → Reads js part old files (Err s) new now
 reads_failed r = record { more = r.more; moves = r.moves; needed = r.needed; gives = r.gives }
 
--- a step with its value looked at in another way
+-- a step with a function applied to its value
 pub reads_map : {A B X : Type 0} {is : X → A → Type 0} {js : X → B → Type 0} {part : List ℕ → Cut A}
     {old new : Buffered} {files now : Option Files} {result : Result X Stop} (f : A → B) →
     ((x : X) (a : A) → is x a → js x (f a)) → Reads is part old files result new now →
@@ -212,7 +212,7 @@ reads_map {part = part} {old = old} {result = Ok x} f same r =
     }
 reads_map {result = Err s} f same r = reads_stop (λ a rest. Takes false (f a) rest) r
 
--- a step that begins after some bytes were read, of a part that is by the end of nothing
+-- a step that begins after some bytes were read, if an empty list doesn't decide its part
 pub reads_after : {A X : Type 0} {is : X → A → Type 0} {part : List ℕ → Cut A} {old mid new : Buffered}
     {files fmid now : Option Files} {result : Result X Stop} → is_by_end (part []) ≡ true → ReadsOn old files mid fmid →
     Reads is part mid fmid result new now → Reads is part old files result new now
@@ -224,7 +224,7 @@ reads_after {is = is} {part = part} {old = old} {mid = mid} {new = new} {result 
   gives = rw (← append_assoc old.bytes on.more r.more, ← on.bytes) r.gives;
 }
 
--- a step by another part that is the same on the bytes at hand, whatever comes after them
+-- a step for another part that is the same on the bytes held, whatever comes after them
 pub reads_as : {A X : Type 0} {is : X → A → Type 0} {part other : List ℕ → Cut A} {old new : Buffered} {files now : Option Files}
     {result : Result X Stop} → ((more : List ℕ) → part (old.bytes ++ more) ≡ other (old.bytes ++ more)) →
     Reads is other old files result new now → Reads is part old files result new now
@@ -235,7 +235,7 @@ reads_as {part = part} {old = old} same r = record {
   gives = rw same r.gives;
 }
 
--- a step that begins with a look at a byte that is there, and goes on as another part does at that byte
+-- a step that looks at a byte, and goes on as another part does at that byte
 pub reads_look : {A X : Type 0} {is : X → A → Type 0} {part other : List ℕ → Cut A} {old mid new : Buffered}
     {files fmid now : Option Files} {result : Result X Stop} {b : ℕ} → is_by_end (part []) ≡ true →
     (look : (bs : List ℕ) × (mid.bytes ≡ b ∷ bs)) → ReadsOn old files mid fmid → ((xs : List ℕ) → part (b ∷ xs) ≡ other (b ∷ xs)) →
@@ -243,7 +243,7 @@ pub reads_look : {A X : Type 0} {is : X → A → Type 0} {part other : List ℕ
 reads_look {part = part} {other = other} by_end (bs, here) on same r =
     reads_after by_end on (reads_as (λ xs. rw here (same (bs ++ xs))) r)
 
--- a step that uses a byte that is there, and goes on as another part does behind that byte
+-- a step that uses a byte, and goes on as another part does after that byte
 pub reads_pass : {A X : Type 0} {is : X → A → Type 0} {part other : List ℕ → Cut A} {old mid passed new : Buffered}
     {files fmid now : Option Files} {result : Result X Stop} {b : ℕ} → is_by_end (part []) ≡ true →
     (look : (bs : List ℕ) × (mid.bytes ≡ b ∷ bs)) → ReadsOn old files mid fmid → passed.bytes ≡ drop 1 mid.bytes → passed.ended ≡ mid.ended →
@@ -259,7 +259,7 @@ reads_pass {is = is} {part = part} {other = other} {mid = mid} {passed = passed}
       gives = rw (whole r.more) r.gives;
     }
 
--- a step that makes another value of the one that it read
+-- a step that turns the value that it read into another one
 pub reads_made : {A B X Y : Type 0} {is : X → A → Type 0} {js : Y → B → Type 0} {part : List ℕ → Cut A}
     {old new : Buffered} {files now : Option Files} {x : X} (f : A → B) (y : Y) → ((a : A) → is x a → js y (f a)) →
     Reads is part old files (Ok x) new now → Reads js (λ bytes. part bytes >>= λ a rest. Takes false (f a) rest) old files (Ok y) new now
@@ -273,13 +273,13 @@ reads_made {part = part} {old = old} f y same r =
       gives = (e || false, f a, same a is_x, ap (λ c. c >>= λ a rest. Takes false (f a) rest) takes, λ h. settled (or_false e h));
     }
 
--- memory is wanting, and nothing was read
+-- memory ran out, and nothing was read
 pub reads_memory : {A X : Type 0} (is : X → A → Type 0) (part : List ℕ → Cut A) (held : Buffered) (files : Option Files) →
     Reads is part held files (Err (stop.Fault fault.NoMemory)) held files
 reads_memory is part held files =
     record { more = []; moves = stand held.ended files; needed = needs_none (λ bytes. part (held.bytes ++ bytes)); gives = tt }
 
--- a read failed where no byte was left, and the part is by the end of nothing
+-- a read failed when no byte was left, and an empty list doesn't decide the part
 pub reads_fault : {A X : Type 0} {is : X → A → Type 0} {part : List ℕ → Cut A} {old new : Buffered} {files now : Option Files} →
     is_by_end (part []) ≡ true → new ≡ old → now ≡ files → old.bytes ≡ [] → old.ended ≡ false →
     Reads is part old files (Err (stop.Fault fault.ReadFault)) new now
@@ -291,7 +291,7 @@ reads_fault {part = part} {old = old} {files = files} by_end same same_files non
       gives = (ap (λ bytes. is_by_end (part (bytes ++ []))) none ∙ by_end, going_on);
     }
 
--- a part stops at the bytes at hand
+-- a part stops at the bytes held
 pub reads_nothing : {A X : Type 0} {is : X → A → Type 0} {part : List ℕ → Cut A} {held : Buffered} {files : Option Files} {s : Stop} (e : Bool) (ending : FileEnd) →
     part (held.bytes ++ []) ≡ Stops e ending → cause_of s ≡ Says ending → (e ≡ true → held.ended ≡ true) → Reads is part held files (Err s) held files
 reads_nothing {part = part} {held = held} {files = files} e ending stops cause settled =
@@ -303,21 +303,21 @@ reads_nothing {part = part} {held = held} {files = files} e ending stops cause s
       gives = subst (λ why. StopsBy (part (held.bytes ++ [])) why held) (sym cause) here;
     }
 
--- no byte comes any more where one is due
+-- there are no more bytes, and one is required
 pub reads_end : {A X : Type 0} {is : X → A → Type 0} {part : List ℕ → Cut A} {old new : Buffered} {files now : Option Files} {s : Stop} (ending : FileEnd) →
     part [] ≡ Stops true ending → cause_of s ≡ Says ending → ReadsOn old files new now → new.bytes ≡ [] → new.ended ≡ true →
     Reads is part old files (Err s) new now
 reads_end {part = part} ending stops cause on none ended =
     reads_after (ap is_by_end stops) on (reads_nothing true ending (ap (λ bytes. part (bytes ++ [])) none ∙ stops) cause (λ _. ended))
 
--- the part stops at the byte that is there
+-- the part stops at the byte that comes next
 pub reads_refused : {A X : Type 0} {is : X → A → Type 0} {part : List ℕ → Cut A} {old mid : Buffered} {files fmid : Option Files} {s : Stop} {b : ℕ} (ending : FileEnd) →
     is_by_end (part []) ≡ true → (look : (bs : List ℕ) × (mid.bytes ≡ b ∷ bs)) → ReadsOn old files mid fmid →
     ((xs : List ℕ) → part (b ∷ xs) ≡ Stops false ending) → cause_of s ≡ Says ending → Reads is part old files (Err s) mid fmid
 reads_refused ending by_end (bs, here) on stops cause =
     reads_after by_end on (reads_nothing false ending (rw here (stops (bs ++ []))) cause (λ h. absurd (not_true h)))
 
--- the part stops behind the byte that was there
+-- the part stops after a byte
 pub reads_behind : {A X : Type 0} {is : X → A → Type 0} {part : List ℕ → Cut A} {old mid passed : Buffered} {files fmid : Option Files} {s : Stop} {b : ℕ} (ending : FileEnd) →
     is_by_end (part []) ≡ true → (look : (bs : List ℕ) × (mid.bytes ≡ b ∷ bs)) → ReadsOn old files mid fmid → passed.bytes ≡ drop 1 mid.bytes → passed.ended ≡ mid.ended →
     ((xs : List ℕ) → part (b ∷ xs) ≡ Stops false ending) → cause_of s ≡ Says ending → Reads is part old files (Err s) passed fmid

@@ -1,4 +1,4 @@
--- A run that is read one byte after another: how it begins, goes on and ends.
+-- Reading a run byte by byte gives the run: how it begins, goes on and ends.
 use Rattle.std.proofs.Common.{◌≡◌, refl, ℕ, suc, ◌+◌, ◌≤◌, ◌<◌, true, false, List, [], ◌∷◌, ◌++◌, length, drop, arith, ap, sym, ◌∙◌, Option, Ok, Err, append_assoc, append-nil}
 use Rattle.std.specs.Prelude.{nat_lt}
 use Rattle.std.proofs.lemmas.List.{length-append}
@@ -16,10 +16,10 @@ use Rattle.bitmap_input.specs.Inner.Buffer.{ReadsOn}
 use Rattle.bitmap_input.specs.Inner.ByteRuns.{run_size}
 use Rattle.bitmap_input.specs.declared.run.Run.{Run}
 use Rattle.bitmap_input.specs.declared.run.Run.TheVariants.{Space, Gap, Comment}
-use Rattle.bitmap_input.proofs.Needing.{needs_none, needs_look}
-use Rattle.bitmap_input.proofs.Telling.{not_true, stand, move_on}
+use Rattle.bitmap_input.proofs.NeededBytes.{needs_none, needs_look}
+use Rattle.bitmap_input.proofs.ComposedSteps.{not_true, stand, move_on}
 
--- n bytes of a run were used: a run that begins as theirs did goes on as `len_now` says
+-- n bytes of a run have been used, and the rest of the run has the length that `len_now` gives
 pub record RunSoFar (len len_now : List ℕ → ℕ) (old : Buffered) (before : Option Files) (n : ℕ) (new : Buffered) (now : Option Files) : Type 0 where
   pub more : List ℕ
   pub used : List ℕ
@@ -29,17 +29,17 @@ pub record RunSoFar (len len_now : List ℕ → ℕ) (old : Buffered) (before : 
   pub count : length used ≡ n
   pub goes_on : (tail : List ℕ) → len (used ++ tail) ≡ n + len_now tail
 
--- the value of a step and that of the part are these two
+-- the value of the step is x, and the value of the part is a
 abbrev pub Exactly : {A X : Type 0} → X → A → X → A → Type 0
 Exactly x a y b = (y ≡ x) × (b ≡ a)
 
--- no run stands at the front of nothing
+-- an empty list has no run
 pub length_of-nil : (run : Run) → run_size run [] ≡ 0
 length_of-nil Space = refl
 length_of-nil Gap = refl
 length_of-nil Comment = refl
 
--- no byte was used
+-- no byte has been used
 abbrev pub run_begins : (len : List ℕ → ℕ) (old : Buffered) (files : Option Files) → RunSoFar len len old files 0 old files
 run_begins len old files = record {
   more = [];
@@ -58,26 +58,26 @@ cut_at n used rest count within =
     let test : nat_lt longest n ≡ false = le-ltb longest n within in
     rw (test, ← count, take-append_seam, drop-append_seam) refl
 
--- the bytes at hand and those that were taken are those that were used and those that are left
+-- the bytes held and read are those that were used, followed by those that are left
 pub two_splits : (old more used mid more2 new : List ℕ) → old ++ more ≡ used ++ mid → new ≡ mid ++ more2 →
     old ++ (more ++ more2) ≡ used ++ new
 two_splits old more used mid more2 new a b =
     sym (append_assoc old more more2) ∙ ap (λ xs. xs ++ more2) a ∙ append_assoc used mid more2 ∙ ap (λ xs. used ++ xs) (sym b)
 
 module _ {len len_now : List ℕ → ℕ} {old mid : Buffered} {before f : Option Files} {n : ℕ} (s : RunSoFar len len_now old before n mid f) (ends : len_now [] ≡ 0) (within : n ≤ longest) where
-  -- where no byte is left, the run is by the end of those that were used
+  -- if no byte is left, more bytes could lengthen the run
   pub run_is_open : mid.bytes ≡ [] → is_by_end (run_of (len (old.bytes ++ s.more)) (old.bytes ++ s.more)) ≡ true
   run_is_open none =
       let count : len (s.used ++ []) ≡ n = s.goes_on [] ∙ omega (arith, ends) in
       rw (s.split, none, count) (ap is_by_end (cut_at n s.used [] s.count within))
 
-  -- the next look reads where it has to
+  -- the next look reads only if it has to
   pub run_needs : {look : Buffered} {now : Option Files} → (on : ReadsOn mid f look now) →
       AreNeeded (λ bytes. run_of (len (old.bytes ++ bytes)) (old.bytes ++ bytes)) (s.more ++ on.more)
   run_needs on = needs_look (λ bytes. run_of (len (old.bytes ++ bytes)) (old.bytes ++ bytes)) s.more s.needed on run_is_open
 
 module _ (len len_now : List ℕ → ℕ) (old mid new : Buffered) (before f now : Option Files) (n : ℕ) (s : RunSoFar len len_now old before n mid f) where
-  -- the run ends before the bytes at hand, or with them where a read gave nothing
+  -- the run ends before the bytes held, or with them after a read has returned nothing
   run_ends : {X : Type 0} (x : X) → ReadsOn mid f new now → len_now [] ≡ 0 → len_now new.bytes ≡ 0 →
       (is_empty new.bytes ≡ true → new.ended ≡ true) → n ≤ longest →
       Reads (Exactly x s.used) (λ bytes. run_of (len bytes) bytes) old before (Ok x) new now
@@ -91,19 +91,19 @@ module _ (len len_now : List ℕ → ℕ) (old mid new : Buffered) (before f now
         gives = (is_empty new.bytes, s.used, (refl, refl), rw (all, count) (cut_at n s.used new.bytes s.count within), settled);
       }
 
-  -- it ends before a byte
+  -- the run ends before a byte
   pub run_ends_at : {X : Type 0} (x : X) (b : ℕ) (bs : List ℕ) → ReadsOn mid f new now → new.bytes ≡ b ∷ bs →
       len_now [] ≡ 0 → ((xs : List ℕ) → len_now (b ∷ xs) ≡ 0) → n ≤ longest →
       Reads (Exactly x s.used) (λ bytes. run_of (len bytes) bytes) old before (Ok x) new now
   run_ends_at x b bs reads here nothing ends within =
       run_ends x reads nothing (ap len_now here ∙ ends bs) (λ h. absurd (not_true (sym (ap is_empty here) ∙ h))) within
 
-  -- it ends where no byte comes any more
+  -- the run ends because there are no more bytes
   pub run_ends_last : {X : Type 0} (x : X) → ReadsOn mid f new now → new.bytes ≡ [] → new.ended ≡ true → len_now [] ≡ 0 →
       n ≤ longest → Reads (Exactly x s.used) (λ bytes. run_of (len bytes) bytes) old before (Ok x) new now
   run_ends_last x reads none ended ends within = run_ends x reads ends (ap len_now none ∙ ends) (λ _. ended) within
 
-  -- a read failed where no byte was left
+  -- a read failed when no byte was left
   pub run_fails : {X : Type 0} (is : X → List ℕ → Type 0) → new ≡ mid → now ≡ f → mid.bytes ≡ [] → mid.ended ≡ false → len_now [] ≡ 0 → n ≤ longest →
       Reads {X = X} is (λ bytes. run_of (len bytes) bytes) old before (Err (stop.Fault fault.ReadFault)) new now
   run_fails is same same_files none going_on ends within =

@@ -1,5 +1,5 @@
--- An answer that isn't by the end of the bytes stays the same where bytes are added: of each part,
--- and so of the page.
+-- A part that bytes added couldn't change stays the same when bytes are added: each part, and therefore the
+-- page.
 use Rattle.std.proofs.Common.{◌≡◌, refl, ℕ, zero, suc, ◌*◌, ◌≤◌, ◌<◌, Bool, true, false, cond, ◌||◌, List, [], ◌∷◌, ◌++◌, length, take, drop, arith, Option, Some, None}
 use Rattle.std.specs.Prelude.{nat_eq, nat_lt}
 use Rattle.std.proofs.lemmas.List.{take-append-le, drop-append-le, length-append}
@@ -17,12 +17,12 @@ use Rattle.bitmap_input.specs.declared.channels.Channels.TheVariants.{Gray, Colo
 use Rattle.bitmap_input.proofs.Bytes.{run_length-le, run_length-append-le, run_length-append, gap_length-le, gap_length-append-le, gap_length-append}
 use Rattle.pt_core.specs.declared.limits.TheConstants.{LONGEST_SIDE}
 
--- the same cut of a list to which bytes were added
+-- the cut of a list, after bytes were added to it
 abbrev pub with_more : {A : Type 0} → List ℕ → Cut A → Cut A
 with_more more (Takes e x rest) = Takes e x (rest ++ more)
 with_more more (Stops e ending) = Stops e ending
 
--- where it isn't by the end, the part is the same where bytes are added
+-- the part stays the same when bytes are added, unless it is by the end of the list
 abbrev pub Stays : {A : Type 0} → (List ℕ → Cut A) → Type 0
 Stays f = (bytes more : List ℕ) → is_by_end (f bytes) ≡ false → f (bytes ++ more) ≡ with_more more (f bytes)
 
@@ -39,7 +39,7 @@ pub with_more-after : {A : Type 0} (more : List ℕ) (d : Bool) (c : Cut A) →
 with_more-after more d (Takes e x rest) = refl
 with_more-after more d (Stops e ending) = refl
 
--- one part after another, of a cut and of what it is where bytes are added
+-- one part after another, in a list and in the list with added bytes
 pub stays_bind : {A B : Type 0} (c d : Cut A) (g : A → List ℕ → Cut B) (more : List ℕ) →
     ((x : A) → Stays (g x)) → (is_by_end c ≡ false → d ≡ with_more more c) →
     is_by_end (c >>= g) ≡ false → (d >>= g) ≡ with_more more (c >>= g)
@@ -52,7 +52,7 @@ stays_bind (Takes false x rest) d g more parts first not_end =
 stays_bind (Stops e ending) d g more parts first not_end =
     let h = first not_end in rw h refl
 
--- two tests that answer alike where bytes are added
+-- two cases of a test that have the same result when bytes are added
 pick_stays : {A : Type 0} (t : Bool) (c d c2 d2 : Cut A) (more : List ℕ) →
     (is_by_end c ≡ false → c2 ≡ with_more more c) → (is_by_end d ≡ false → d2 ≡ with_more more d) →
     is_by_end (cond t c d) ≡ false → cond t c2 d2 ≡ with_more more (cond t c d)
@@ -73,7 +73,7 @@ is_empty-append : (xs more : List ℕ) → is_empty xs ≡ false → is_empty (x
 is_empty-append [] more h = cc
 is_empty-append (x ∷ xs) more h = refl
 
--- a run by its length, where that stands on its own side of the limit
+-- a run given by its length, which is within the limit or above it
 run_at : (t : Bool) (n m : ℕ) (bytes more : List ℕ) → nat_lt longest n ≡ t → n ≤ length bytes → n ≤ m →
     (is_empty (drop n bytes) ≡ false → m ≡ n) → is_by_end (run_of n bytes) ≡ false →
     run_of m (bytes ++ more) ≡ with_more more (run_of n bytes)
@@ -103,15 +103,15 @@ gap_stays bytes more not_end =
     stays_run (gap_length false bytes) (gap_length false (bytes ++ more)) bytes more
     (gap_length-le false bytes) (gap_length-append-le false bytes more) (gap_length-append false bytes more) not_end
 
--- Where a length is 0 the byte after it decides, and where it isn't, it isn't with more bytes.
+-- A length of 0 is decided by the byte after it. Any other length isn't 0 with more bytes either.
 
--- the length of a run with more bytes: none, and then no byte or one that ends it; or some, and then some
+-- the length of a run stays 0 or not 0 when bytes are added
 is_zero-append : (n m : ℕ) → n ≤ m → is_zero n ≡ false → is_zero m ≡ false
 is_zero-append zero m h z = cc
 is_zero-append (suc n) zero h z = absurd (omega arith)
 is_zero-append (suc n) (suc m) h z = refl
 
--- a part that is missing where a length is 0
+-- a part that is missing if a length is 0
 or_missing : {A : Type 0} (t : Bool) (kind : Kind) (n m : ℕ) (bytes more : List ℕ) (c d : Cut A) →
     is_zero n ≡ t → n ≤ m → (is_empty (drop n bytes) ≡ false → m ≡ n) →
     (is_by_end c ≡ false → d ≡ with_more more c) →

@@ -1,4 +1,4 @@
--- Bytes that are passed over, as many as the buffer holds at a time.
+-- Skipping bytes, one buffer after another, skips the right number.
 use Rattle.std.proofs.Common.{subst, ◌≡◌, refl, ℕ, ◌+◌, ◌-◌, ◌≤◌, ◌<◌, Bool, true, false, List, [], ◌++◌, length, take, drop, arith, ap, sym, ◌∙◌, Option, Ok, Err, append_assoc, append-nil}
 use Rattle.std.specs.Prelude.{nat_lt}
 use Rattle.std.proofs.lemmas.List.{length-append, length-take-le, take-append-drop, drop-append-le, drop_all}
@@ -16,12 +16,12 @@ use Rattle.bitmap_input.specs.Reading.Cause.{Says, Device, Memory}
 use Rattle.bitmap_input.specs.Inner.Buffer.{ReadsOn}
 use Rattle.bitmap_input.specs.Inner.Skip.{passed_over}
 use Rattle.bitmap_input.specs.Cut.{is_by_end}
-use Rattle.bitmap_input.proofs.Appending.{Stays}
-use Rattle.bitmap_input.proofs.Needing.{needs_none, needs_as, needs_look}
-use Rattle.bitmap_input.proofs.Telling.{not_true, stand, move_on}
-use Rattle.bitmap_input.proofs.Running.{two_splits}
+use Rattle.bitmap_input.proofs.AddedBytes.{Stays}
+use Rattle.bitmap_input.proofs.NeededBytes.{needs_none, needs_as, needs_look}
+use Rattle.bitmap_input.proofs.ComposedSteps.{not_true, stand, move_on}
+use Rattle.bitmap_input.proofs.ByteRuns.{two_splits}
 
--- so many of n bytes are still to be passed over
+-- `left` of n bytes are still to be skipped
 pub record IsPassedSoFar (old : Buffered) (before : Option Files) (n left : ℕ) (held : Buffered) (files : Option Files) : Type 0 where
   pub more : List ℕ
   pub used : List ℕ
@@ -41,7 +41,7 @@ skip_begins old files n = record {
 }
 
 module _ {old held : Buffered} {before files : Option Files} {n left : ℕ} (s : IsPassedSoFar old before n left held files) (some : 0 < left) where
-  -- where no byte is left, fewer than n are there
+  -- if no byte is left, there are fewer than n
   pub skip_is_open : held.bytes ≡ [] → is_by_end (passed_over n (old.bytes ++ s.more)) ≡ true
   skip_is_open none =
       let whole : old.bytes ++ s.more ≡ s.used = s.split ∙ ap (λ xs. s.used ++ xs) none ∙ append-nil s.used in
@@ -49,12 +49,12 @@ module _ {old held : Buffered} {before files : Option Files} {n left : ℕ} (s :
       let test : nat_lt (length s.used) n ≡ true = lt-ltb (length s.used) n less in
       rw (whole, test) refl
 
-  -- the next look reads where it has to
+  -- the next look reads only if it has to
   pub skip_needs : {look : Buffered} {now : Option Files} → (on : ReadsOn held files look now) →
       AreNeeded (λ bytes. passed_over n (old.bytes ++ bytes)) (s.more ++ on.more)
   skip_needs on = needs_look (λ bytes. passed_over n (old.bytes ++ bytes)) s.more s.needed on skip_is_open
 
--- k more bytes were passed over
+-- k more bytes were skipped
 pub skip_goes_on : {old held look new : Buffered} {before files now : Option Files} {n : ℕ} (left k less : ℕ) → IsPassedSoFar old before n left held files → 0 < left →
     ReadsOn held files look now → k ≤ left → k ≤ length look.bytes → new.bytes ≡ drop k look.bytes → new.ended ≡ look.ended → less ≡ left - k →
     IsPassedSoFar old before n less new now
@@ -69,7 +69,7 @@ skip_goes_on {old} {held} {look} {new} {n = n} left k less s some on within fits
   count = omega (arith, s.count, length-append s.used (take k look.bytes), length-take-le k look.bytes fits);
 }
 
--- all were passed over
+-- all bytes were skipped
 pub skip_ends : {old held : Buffered} {before files : Option Files} {n left : ℕ} → IsPassedSoFar old before n left held files → left ≡ 0 →
     Reads Same (passed_over n) old before (Ok 0) held files
 skip_ends {old} {held} {n = n} {left = left} s none =
@@ -87,7 +87,7 @@ skip_ends {old} {held} {n = n} {left = left} s none =
       gives = (false, 0, refl, rw (test, missing, rest) refl, λ h. absurd (not_true h));
     }
 
--- a read gave nothing before all were passed over
+-- a read returned nothing before all bytes were skipped
 pub skip_is_short : {old held new : Buffered} {before files now : Option Files} {n : ℕ} (left : ℕ) → IsPassedSoFar old before n left held files → 0 < left →
     ReadsOn held files new now → new.bytes ≡ [] → new.ended ≡ true → Reads Same (passed_over n) old before (Ok left) new now
 skip_is_short {old} {held} {new} {n = n} left s some on none ended =
@@ -104,13 +104,13 @@ skip_is_short {old} {held} {new} {n = n} left s some on none ended =
       gives = (true, left, refl, rw (whole, test, missing, rest, none) refl, λ _. ended);
     }
 
--- a read failed before all were passed over
+-- a read failed before all bytes were skipped
 pub skip_fails : {old held new : Buffered} {before files now : Option Files} {n : ℕ} (left : ℕ) → IsPassedSoFar old before n left held files → 0 < left →
     new ≡ held → now ≡ files → held.bytes ≡ [] → held.ended ≡ false → Reads {X = ℕ} Same (passed_over n) old before (Err (stop.Fault fault.ReadFault)) new now
 skip_fails left s some same same_files none going_on =
     rw (same, same_files) record { more = s.more; moves = s.moves; needed = s.needed; gives = (skip_is_open s some none, going_on) }
 
--- The bytes passed over, as a part.
+-- The skipped bytes, as a part.
 
 over_at : (t : Bool) (n : ℕ) (bytes more : List ℕ) → nat_lt (length bytes) n ≡ t → t ≡ false →
     passed_over n (bytes ++ more) ≡ Takes false 0 (drop n bytes ++ more)
@@ -131,7 +131,7 @@ passed_over_stays n bytes more not_end =
 needed_block : (start : List ℕ) {more : List ℕ} (n : ℕ) → AreNeeded (λ bytes. passed_over n (start ++ bytes)) more → AreNeeded (λ bytes. block n (start ++ bytes)) more
 needed_block start n needed = needs_as (λ bytes. block n (start ++ bytes)) (λ bytes still. rw still refl) needed
 
--- none was missing: a block was passed over
+-- no byte was missing: a block was skipped
 pub block_passed : {old new : Buffered} {files now : Option Files} {left : ℕ} (n : ℕ) → left ≡ 0 → Reads Same (passed_over n) old files (Ok left) new now →
     Reads Any (block n) old files (Ok (tt {0})) new now
 block_passed {old} {new} n none r =
@@ -143,7 +143,7 @@ block_passed {old} {new} n none r =
     let rest : drop n bytes ≡ new.bytes = cc in
     record { more = r.more; moves = r.moves; needed = needed_block old.bytes n r.needed; gives = (false, take n bytes, tt, rw (test, rest) refl, λ h. absurd (not_true h)) }
 
--- some were missing
+-- some bytes were missing
 pub block_missing : {old new : Buffered} {files now : Option Files} {left : ℕ} (n : ℕ) → 0 < left → Reads Same (passed_over n) old files (Ok left) new now →
     Reads {X = Unit {0}} Any (block n) old files (Err (stop.Fault fault.Truncated)) new now
 block_missing {old} {new} n some r =
