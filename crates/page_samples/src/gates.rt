@@ -1,18 +1,19 @@
-//! A gate that shows whether threads share the pages as they go.
+//! A gate that shows whether threads share the pages of a batch while they trace them.
 
 use pt_core::Gate;
 use std::sync::atomic::{AtomicU64, Ordering};
 use std::thread;
 
-/// How often the first call looks whether four calls have come.
+/// How many times the first call checks whether four calls have been made.
 const MOST_TURNS: u32 = 100_000_000;
 
-/// It holds its first call, whatever the page, until four calls have come, and gives up in the end.
+/// A gate that holds its first call, for any page, until four calls have been made, and then lets it pass. It
+/// also lets the call pass after `MOST_TURNS` checks.
 #[derive(Drop)]
 pub struct HoldsFirst {
     most_turns: u32,
     calls: AtomicU64,
-    // One added for each page, each in a byte of its own.
+    // Each page adds one to a byte of its own.
     pages: AtomicU64,
     met_limit: AtomicU64,
 }
@@ -23,7 +24,7 @@ impl HoldsFirst {
         HoldsFirst::for_turns(MOST_TURNS)
     }
 
-    /// One that gives up at once, so that it holds no call.
+    /// A gate that holds no call.
     pub fn open() -> HoldsFirst {
         HoldsFirst::for_turns(0)
     }
@@ -37,8 +38,8 @@ impl HoldsFirst {
         }
     }
 
-    /// How often it was called; how often for each of the first eight pages, in a byte each; and 1 where the
-    /// first call met the limit, else 0.
+    /// How many times the gate was called, how many times for each of the first eight pages (a byte each), and
+    /// 1 if the first call reached the limit of checks, otherwise 0.
     pub fn told(&self) -> (u64, u64, u64) {
         (
             self.calls.load(Ordering::SeqCst),
@@ -52,7 +53,7 @@ impl HoldsFirst {
             if self.calls.load(Ordering::SeqCst) >= 4 {
                 return;
             }
-            // A busy machine gets the chance to run the other worker.
+            // This gives the other worker a chance to run on a busy machine.
             if turn % 1024 == 0 {
                 thread::yield_now();
             }

@@ -1,4 +1,4 @@
-//! Pages, walks, plain programs and runs in memory that the tests are made of.
+//! Pages, walks, plain programs and runs in memory, from which the tests are made.
 #![tactic(auto)]
 
 pub mod gates;

@@ -6,10 +6,10 @@ use bit_image::Bitmap;
 use pt_core::{LONGEST_SIDE, NoMemory};
 use std::alloc::Global;
 
-/// Why there is no such page.
+/// Why a page couldn't be made.
 #[derive(Clone, Copy, Debug, PartialEq, Eq)]
 pub enum NoPage {
-    /// A side isn't 1 to the longest one.
+    /// A side isn't 1 to `LONGEST_SIDE`.
     BadSide,
     OutOfMemory,
 }
@@ -22,7 +22,7 @@ impl From<NoMemory> for NoPage {
     }
 }
 
-/// A page from its rows, the uppermost first and as long as all others; `#` is black.
+/// A page drawn in text: one string for each row, from the top, all of the same length; `#` is black.
 pub fn drawn(alloc: Global, rows: &[&str]) -> Result<Bitmap, NoPage> {
     let width = match rows.first() {
         Some(row) => row.len(),
@@ -51,7 +51,7 @@ pub fn checkered(alloc: Global, side: usize) -> Result<Bitmap, NoPage> {
     Ok(page)
 }
 
-/// The page of 3 by 3 pixels that a number has for its bits.
+/// The page of 3 by 3 pixels that has the bits of a number as its pixels.
 pub fn numbered(alloc: Global, number: u32) -> Result<Bitmap, NoPage> {
     let mut page = white(alloc, 3, 3)?;
     for place in 0..9u32 {
@@ -61,7 +61,7 @@ pub fn numbered(alloc: Global, number: u32) -> Result<Bitmap, NoPage> {
     Ok(page)
 }
 
-/// Black and white as a simple generator of numbers draws them, from this seed.
+/// A page of black and white pixels from a simple random number generator with this seed.
 pub fn noise(alloc: Global, width: usize, height: usize, seed: u64) -> Result<Bitmap, NoPage> {
     let mut page = white(alloc, width, height)?;
     let mut state = seed;
@@ -84,7 +84,7 @@ pub(crate) fn white(alloc: Global, width: usize, height: usize) -> Result<Bitmap
     Ok(Bitmap::new(alloc, width as u32, height as u32)?)
 }
 
-/// Gives a pixel of the page its colour, and passes others over.
+/// Colours one pixel of the page, unless it lies outside.
 pub(crate) fn put(page: &mut Bitmap, x: usize, y: usize, black: bool) {
     if x < page.width() as usize && y < page.height() as usize {
         page.set(x as u32, y as u32, black);

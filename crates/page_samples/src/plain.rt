@@ -1,4 +1,4 @@
-//! Possible segments by the criterion over all triples, word for word, in whole numbers.
+//! Possible segments, tested by the criterion over all triples of points, in whole numbers.
 ghost use Rattle.std.specs.Prelude.{◌≤◌, ◌<◌, length};
 
 use pt_core::Point;
@@ -12,7 +12,7 @@ pub fn is_possible(points: &[Point], i: usize, j: usize) -> bool {
     is_straight(points, i + size - 1, j - i + 2)
 }
 
-/// Whether so many steps from a point on are straight.
+/// Whether the path is straight for `count` steps from point `start`.
 fn is_straight(points: &[Point], start: usize, count: usize) -> bool
     requires some { 1 ≤ length points.now }
     requires start { start < 1000000 }
@@ -44,8 +44,8 @@ fn is_straight(points: &[Point], start: usize, count: usize) -> bool
 
 /// Whether the half-line from `from` through `to` comes within 1 of `between`.
 //
-// At p/q of the way to `to` it does. If it does so anywhere, it does so at its start, or where it
-// enters one of the two strips of width 2 around `between`.
+// At p/q of the way to `to` it does. If it comes so near anywhere, it does so at its start, or at a border of
+// one of the two strips of width 2 around `between`.
 fn is_near(from: Point, between: Point, to: Point) -> bool {
     let (x, y) = (
         between.x.wrapping_sub(from.x),

@@ -1,14 +1,14 @@
-//! How far possible segments reach, by cones that walk along every point of the path.
+//! How far possible segments reach, found by cones that walk along every point of the path.
 use pt_core::{MOST_STEPS, NoMemory, Point};
 use std::alloc::Global;
 
-/// How far one point is from another.
+/// The step from one point to another.
 type Way = (i64, i64);
 
 /// The most steps of a possible segment.
 const MOST: usize = MOST_STEPS as usize;
 
-/// For each point of a closed walk, how many steps its longest possible segment has.
+/// For each point of a closed walk, the number of steps of its longest possible segment.
 pub fn reaches(alloc: Global, points: &[Point]) -> Result<Vec<u32>, NoMemory> {
     let size = points.len();
     let mut ends = vec![in alloc; 0usize; size]?;
@@ -16,7 +16,7 @@ pub fn reaches(alloc: Global, points: &[Point]) -> Result<Vec<u32>, NoMemory> {
     if size < 4 || 100_000_000 < size {
         return Ok(reaches);
     }
-    // Two laps down: a straight subpath ends where those from later points do, at the latest.
+    // Two laps, backwards: a straight subpath ends at the latest where those from later points do.
     let mut end = usize::MAX;
     for index in (0..size.wrapping_mul(2)).rev() {
         let place = index % size;
@@ -24,7 +24,7 @@ pub fn reaches(alloc: Global, points: &[Point]) -> Result<Vec<u32>, NoMemory> {
         end = end.min(own);
         ends[place] = end.wrapping_sub(index);
     }
-    // A segment's straight subpath has a step before it and one after it.
+    // A segment's straight subpath has one more step before it and one after it.
     for place in 0..size {
         let straight = ends[place.wrapping_add(size).wrapping_sub(1) % size];
         let most = MOST.min(size.wrapping_sub(3));
@@ -33,7 +33,7 @@ pub fn reaches(alloc: Global, points: &[Point]) -> Result<Vec<u32>, NoMemory> {
     Ok(reaches)
 }
 
-/// For how many steps from a point on the cones from it hold and not all four directions occur.
+/// The number of steps from a point for which the cones hold and not all four directions occur.
 fn straight_steps(points: &[Point], first: usize) -> usize {
     let size = points.len();
     let (mut low, mut high) = ((0, 0), (0, 0));
@@ -54,7 +54,7 @@ fn straight_steps(points: &[Point], first: usize) -> usize {
     size.wrapping_sub(1).min(MOST.wrapping_add(2))
 }
 
-/// The point at an index of any lap.
+/// The point with this index, in any lap.
 fn at(points: &[Point], index: usize) -> Point {
     match points.get(index % points.len().max(1)) {
         Some(point) => *point,
@@ -73,18 +73,19 @@ fn cross(a: Way, b: Way) -> i64 {
     a.0.wrapping_mul(b.1).wrapping_sub(a.1.wrapping_mul(b.0))
 }
 
-/// Whether the cone holds the way; without borders, (0, 0), it holds all.
+/// Whether a direction lies in the cone from `low` to `high`. The cone (0, 0) has no borders and contains all
+/// directions.
 fn is_in(low: Way, high: Way, way: Way) -> bool {
     low == (0, 0) || way != (0, 0) && cross(low, way) >= 0 && cross(way, high) >= 0
 }
 
-/// The cone that also comes within 1 of the way's end.
+/// The part of a cone that comes within 1 of the end of `way`.
 fn narrowed(low: Way, high: Way, way: Way) -> (Way, Way) {
     let (x, y) = way;
     if -1 <= x && x <= 1 && -1 <= y && y <= 1 {
         return (low, high);
     }
-    // The corners of the square within 1 of the end that are farthest to the right and to the left.
+    // The corners of the square around the end that lie farthest to the right and to the left.
     let (mut right, mut left) = (way, way);
     for corner in [(-1i64, -1i64), (-1, 1), (1, -1), (1, 1)] {
         let there = (x.wrapping_add(corner.0), y.wrapping_add(corner.1));
@@ -108,12 +109,12 @@ fn narrowed(low: Way, high: Way, way: Way) -> (Way, Way) {
     (low, high)
 }
 
-/// Whether the first way lies to the right of the second one.
+/// Whether the first direction lies to the right of the second one.
 fn is_before(first: Way, second: Way) -> bool {
     cross(first, second) > 0
 }
 
-/// From a point on, how many steps there are to the next one where the path turns.
+/// The number of steps from a point to the next one at which the path turns.
 pub fn next_corner(points: &[Point], first: usize) -> u32 {
     let start = between(at(points, first), at(points, first.wrapping_add(1)));
     let mut steps = 1u32;

@@ -1,10 +1,10 @@
-//! Pages of one entry a pixel.
+//! Pages with one list entry per pixel.
 
 use bit_image::Bitmap;
 use pt_core::NoMemory;
 use std::alloc::Global;
 
-/// A page that keeps one entry for each pixel, row after row from the lowest up; `true` is black.
+/// A page with one entry for each pixel, row after row from the lowest up; `true` is black.
 #[derive(Debug, Drop)]
 pub struct PlainPage {
     pub width: usize,
@@ -25,7 +25,7 @@ impl PlainPage {
         })
     }
 
-    /// The same pixels as those of a page.
+    /// A page with the same pixels as a bitmap.
     pub fn of(alloc: Global, page: &Bitmap) -> Result<PlainPage, NoMemory> {
         let (width, height) = (page.width(), page.height());
         let mut plain = PlainPage::new(alloc, width as usize, height as usize)?;
@@ -75,12 +75,13 @@ impl PlainPage {
         None
     }
 
-    /// Whether the pixel left of and below a corner is black.
+    /// Whether the pixel left of and below corner (x, y) is black.
     fn is_south_west_black(&self, x: usize, y: usize) -> bool {
         x > 0 && y > 0 && self.is_black(x.saturating_sub(1), y.saturating_sub(1))
     }
 
-    /// Whether the pixels ahead on the left and on the right are black: north is 0, east 1, and so on.
+    /// Whether the pixels ahead on the left and on the right are black. The headings are 0 for north, 1 for
+    /// east, 2 for south and 3 for west.
     pub fn ahead(&self, x: usize, y: usize, heading: u8) -> (bool, bool) {
         let north_west = self.is_south_west_black(x, y.saturating_add(1));
         let north_east = self.is_south_west_black(x.saturating_add(1), y.saturating_add(1));
@@ -94,7 +95,7 @@ impl PlainPage {
         }
     }
 
-    /// How many pixels the page has.
+    /// The number of pixels.
     pub fn size(&self) -> usize {
         self.cells.len()
     }
@@ -107,7 +108,7 @@ impl PlainPage {
         })
     }
 
-    /// How many pixels differ from those of another page.
+    /// The number of pixels that differ from those of another page.
     pub fn differing(&self, other: &PlainPage) -> usize {
         let mut count = 0usize;
         for (one, two) in self.cells.iter().zip(other.cells.iter()) {

@@ -4,27 +4,27 @@ use crate::pages::{NoPage, put, white};
 use bit_image::Bitmap;
 use std::alloc::Global;
 
-/// What is black on a square page.
+/// The black shape on a square page.
 #[derive(Clone, Copy, Debug, PartialEq, Eq)]
 pub enum Shape {
-    /// What lies below a line that rises by so many rows to so many columns.
+    /// The pixels below a line that rises by `rows` in `columns`.
     Stairs {
         rows: usize,
         columns: usize,
     },
-    /// What lies on such a line or above it, up to where the rows times `columns` are so much more.
+    /// The pixels on such a line or above it. The band ends `high` / `columns` rows above the line.
     Band {
         rows: usize,
         columns: usize,
         high: usize,
     },
-    /// Teeth of this width and as far apart, upright on a bar as high as they are wide.
+    /// Upright teeth on a bar. The teeth, the gaps between them and the bar's height have this width.
     Comb {
         width: usize,
     },
-    /// What is nearer to the middle than the sides are.
+    /// The pixels that are nearer to the middle than the page's sides.
     Disc,
-    /// The frames of squares within squares, of this width and as far apart.
+    /// Nested square frames. The frames and the gaps between them have this width.
     Nest {
         width: usize,
     },
@@ -62,7 +62,7 @@ impl Shape {
     }
 }
 
-/// Twice as far as the middle of a pixel.
+/// Twice the coordinate of a pixel's middle.
 fn twice_and_one(place: usize) -> usize {
     place.saturating_mul(2).saturating_add(1)
 }

@@ -3,7 +3,7 @@
 use pt_core::{NoMemory, Point};
 use std::alloc::Global;
 
-/// The path round a black rectangle at the lower left corner of a page.
+/// The path around a black rectangle at the lower left corner of a page.
 pub fn round(alloc: Global, width: i32, height: i32) -> Result<Vec<Point>, NoMemory> {
     let mut points = Vec::new(alloc);
     put_side(&mut points, Point { x: 0, y: height }, (0, -1), height)?;
@@ -21,11 +21,11 @@ pub fn round(alloc: Global, width: i32, height: i32) -> Result<Vec<Point>, NoMem
     Ok(points)
 }
 
-/// A walk whose longest straight part has as many steps as one can have within a square: stairs, with a step
-/// before them and one behind.
+/// A walk with the longest straight part that fits into a square: stairs, with one step before them and one
+/// after.
 ///
-/// From (0, 1) it goes south, and then east and north in turn up to a step below the upper side; then north, east,
-/// and back by way of (`side`, 1).
+/// From (0, 1) it goes south, and then alternately east and north until a step below the upper side. Then it
+/// goes north, east, and back by way of (`side`, 1).
 pub fn hooked_stairs(alloc: Global, side: i32) -> Result<Vec<Point>, NoMemory> {
     let last = side.wrapping_sub(1);
     let mut points = vec![in alloc; Point { x: 0, y: 1 }]?;
@@ -44,7 +44,7 @@ pub fn hooked_stairs(alloc: Global, side: i32) -> Result<Vec<Point>, NoMemory> {
     Ok(points)
 }
 
-/// Appends so many points on a straight way.
+/// Appends `count` points in a straight line.
 fn put_side(
     points: &mut Vec<Point>,
     from: Point,
@@ -60,8 +60,8 @@ fn put_side(
     Ok(())
 }
 
-/// The path round a triangle: from the lower left corner of a square up stairs of one step east and one north each,
-/// and back along its upper and its left side.
+/// The path around a triangle: from the lower left corner of a square up stairs of one step east and one step
+/// north, and back along the upper and the left side.
 pub fn triangle(alloc: Global, side: i32) -> Result<Vec<Point>, NoMemory> {
     let mut points = Vec::new(alloc);
     for step in 0..side {
@@ -76,7 +76,7 @@ pub fn triangle(alloc: Global, side: i32) -> Result<Vec<Point>, NoMemory> {
     Ok(points)
 }
 
-/// Draws the walk whose steps are the code's digits to base 4; whether it is closed.
+/// Draws the walk that has the base-4 digits of `code` as its steps. Returns whether the walk is closed.
 pub fn draw(code: u32, points: &mut [Point]) -> bool {
     let mut rest = code;
     let (mut x, mut y) = (100i32, 100i32);
