@@ -1,4 +1,4 @@
-//! What no clause says: the real adapters, texts, and that the calls that allocate succeed.
+//! What no clause says: the real adapters, texts, and that calls that allocate succeed.
 
 mod levels;
 mod lists;

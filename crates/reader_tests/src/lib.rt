@@ -1,4 +1,4 @@
-//! Tests of the page reader: whole files beside what a person reads in them.
+//! Tests of the page reader: whole files, and what a person reads in them.
 #![tactic(auto)]
 
 #[cfg(test)]

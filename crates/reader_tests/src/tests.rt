@@ -1,5 +1,5 @@
-//! What no clause says: the texts of the faults, that pages come with ample memory, and whole files
-//! beside what a person reads in them, however the reads cut them.
+//! What no clause says: the texts of faults, that pages are read if there is enough memory, and whole files
+//! beside what a person reads in them, however the reads split them.
 
 mod answers;
 mod bmp;

@@ -1,4 +1,4 @@
-//! Levels beside brightnesses that a person can compare.
+//! Levels, and brightnesses that a person can compare with them.
 use std::test::Fail;
 use threshold_map::{GREATEST_SAMPLE, Level};
 
@@ -53,7 +53,7 @@ fn colors(rt: HostRuntime) -> Result<(), Fail> {
 
 #[test]
 fn color_samples(rt: HostRuntime) -> Result<(), Fail> {
-    // Sums of 98302 and 98303 lie on either side of half of three times 65535.
+    // Sums of 98302 and 98303 are on both sides of half of three times 65535.
     let table = [
         (500000, (32768, 32767, 32767), 65535, true),
         (500000, (32768, 32768, 32767), 65535, false),

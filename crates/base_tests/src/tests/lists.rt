@@ -18,7 +18,7 @@ fn one_pixel(alloc: Global) -> Result<Path, NoMemory> {
     })
 }
 
-/// Of a page of 16 by 2 pixels, one pixel's outline and a polygon along it.
+/// The trace of a page of 16 by 2 pixels, with one pixel's outline and a polygon along it.
 fn one_polygon(alloc: Global) -> Result<Trace, NoMemory> {
     let polygon = Polygon {
         at: Sequence::from_vec(Vec::from_slice(alloc, &[0, 2])?),

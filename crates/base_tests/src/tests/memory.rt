@@ -1,4 +1,4 @@
-//! The outside in memory. What each call does is a clause; that memory is there isn't.
+//! The outside in memory. Clauses say what each call does, but not that there is enough memory.
 
 use mem_outside::{InCall, MemInputs, MemOutputs, MemSink, NamedBytes, OutCall};
 use pt_base::write_whole;

@@ -64,7 +64,7 @@ fn roots(rt: HostRuntime) {
     }
 }
 
-// Where a guess would be farthest off: the test would then take longer than it may.
+// A guess is farthest off at these quotients. If it were too far off, the test would take longer than it may.
 #[test]
 fn roots_of_quotients(rt: HostRuntime) {
     let roots = (

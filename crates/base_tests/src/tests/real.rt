@@ -1,4 +1,4 @@
-//! Real files and streams, of which no clause tells what they hold.
+//! Real files and streams. No clause says what they contain.
 
 use pt_base::{ErrSink, FileInputs, FileOutputs, write_whole};
 use pt_core::{DeviceFault, Inputs, OpenFault, Outputs};

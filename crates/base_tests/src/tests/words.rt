@@ -1,4 +1,4 @@
-//! Pages of packed words, beside pages of one entry a pixel.
+//! Pages of packed words, compared with pages of one entry per pixel.
 
 use bit_image::Bitmap;
 use page_samples::{PlainPage, drawn};
@@ -81,7 +81,7 @@ fn a_copy_stays(rt: HostRuntime) -> Result<(), Fail> {
     Ok(())
 }
 
-// Spans that begin and end at, before and behind the ends of words.
+// Spans that begin and end at the ends of words, before them and after them.
 #[test]
 fn spans_are_those_of_the_plain_page(rt: HostRuntime) -> Result<(), Fail> {
     let ends = [0, 1, 62, 63, 64, 65, 127, 128, 129, 190, 191, 192];

@@ -1,4 +1,4 @@
-//! What the reader answers on a file, as a text.
+//! The results of the reader on a file, as text.
 ghost use Rattle.std.specs.Prelude.{◌≤◌};
 
 use bit_image::Bitmap;
@@ -14,14 +14,14 @@ fn half() -> Level {
     Level::from_micro(500000)
 }
 
-/// Whether the reader answers so on a file, however many bytes a read gives.
+/// Whether the reader's results on a file are this text, however many bytes a read returns.
 pub(super) fn tells(alloc: Global, bytes: &[u8], text: &str) -> Result<bool, Fail> {
     let whole = answers(alloc, bytes, 65536, &[], &half(), false)?;
     let single = answers(alloc, bytes, 1, &[], &half(), false)?;
     Ok(whole.as_str() == text && single.as_str() == text)
 }
 
-/// Whether it answers so at a level in millionths, and where black is white.
+/// Whether the reader's results on a file are this text, at a level in millionths, with pixels inverted or not.
 pub(super) fn tells_at(
     alloc: Global,
     bytes: &[u8],
@@ -34,13 +34,13 @@ pub(super) fn tells_at(
     Ok(told.as_str() == text)
 }
 
-/// Whether it answers so where each read gives a byte and this one fails.
+/// Whether the reader's results on a file are this text, if each read returns one byte and read `k` fails.
 pub(super) fn tells_failing(alloc: Global, bytes: &[u8], k: u64, text: &str) -> Result<bool, Fail> {
     let told = answers(alloc, bytes, 1, &[InCall::Read(k)], &half(), false)?;
     Ok(told.as_str() == text)
 }
 
-/// What the reader answers on a file, up to its end or a fault.
+/// The results of the reader on a file, up to its end or a fault.
 fn answers(
     alloc: Global,
     bytes: &[u8],
@@ -99,7 +99,7 @@ fn show(page: &Bitmap, text: &mut String) -> Result<(), Fail> {
     Ok(())
 }
 
-/// Appends a row, `#` for a black pixel.
+/// Appends a row, with `#` for a black pixel.
 fn show_row(page: &Bitmap, y: u32, text: &mut String) -> Result<(), Fail> {
     for x in 0..page.width() {
         text.push(if page.get(i64::from(x), i64::from(y)) {

@@ -18,7 +18,7 @@ pub(super) struct Form {
     pub(super) colors_used: u32,
 }
 
-/// Three by two pixels of one bit, from below, whose rows begin at this place.
+/// Three by two pixels of one bit, from the bottom, with rows that begin at this offset.
 pub(super) fn small(pixel_offset: u32) -> Form {
     Form {
         file_size: 0,
@@ -50,7 +50,7 @@ fn push_fours(bytes: &mut Vec<u8>, numbers: &[u32]) -> Result<(), Fail> {
     Ok(())
 }
 
-/// The fields behind the header's size, in a header of more than 12 bytes.
+/// Appends the fields after the header's size, for a header of more than 12 bytes.
 fn push_long(bytes: &mut Vec<u8>, form: &Form) -> Result<(), Fail> {
     push_fours(bytes, &[form.width, form.height])?;
     push_twos(bytes, &[form.planes, form.bits])?;
@@ -58,7 +58,7 @@ fn push_long(bytes: &mut Vec<u8>, form: &Form) -> Result<(), Fail> {
     push_masks(bytes, form.header_size)
 }
 
-/// The bytes from the fortieth on, with the masks of 32 bits at places 54, 58 and 62 of the file.
+/// Appends the bytes from the fortieth on, with the masks of 32 bits at offsets 54, 58 and 62 of the file.
 fn push_masks(bytes: &mut Vec<u8>, header_size: u32) -> Result<(), Fail> {
     for i in 40..header_size {
         let mask = i == 42 || i == 45 || i == 48;
@@ -67,7 +67,7 @@ fn push_masks(bytes: &mut Vec<u8>, header_size: u32) -> Result<(), Fail> {
     Ok(())
 }
 
-/// A picture's header, and then what stands behind it.
+/// A picture's header, followed by some bytes.
 pub(super) fn picture(alloc: Global, form: &Form, behind: &[&[u8]]) -> Result<Vec<u8>, Fail> {
     let mut bytes = Vec::from_slice(alloc, b"BM")?;
     push_head(&mut bytes, form)?;
@@ -96,23 +96,22 @@ fn push_parts(bytes: &mut Vec<u8>, parts: &[&[u8]]) -> Result<(), Fail> {
     Ok(())
 }
 
-/// Black is colour 0, and white colour 1.
+/// Colour 0 is black, and colour 1 white.
 pub(super) const PALETTE: &[u8] = b"\0\0\0\0\xff\xff\xff\0";
 
-/// The rows of the picture with one bit, and bits past the width.
+/// The lower row of the picture with one bit per pixel, with more bits beyond the width.
 pub(super) const LOW: &[u8] = b"\xbf\x55\x55\x55";
 
 const HIGH: &[u8] = b"\x5f\x55\x55\x55";
 
-/// #.#
-/// .#.
+/// The results for a picture of two rows, `#.#` above `.#.`.
 const CHECKERS: &str = "#.#/.#./ end";
 
-/// The same picture upside down.
+/// The results for the picture upside down.
 const TURNED: &str = ".#./#.#/ end";
 
-/// Whether the reader answers so on a picture with these rows, and unused bytes behind the first colours of
-/// its palette.
+/// Whether the reader's results are this text, on a picture with these rows and unused bytes after the first
+/// colours of its palette.
 fn tells_rows(
     alloc: Global,
     form: &Form,
@@ -126,7 +125,7 @@ fn tells_rows(
     tells(alloc, &bytes, text)
 }
 
-/// Appends bytes up to the place of the rows.
+/// Appends bytes up to the offset of the rows.
 fn push_unused(bytes: &mut Vec<u8>, pixel_offset: u32) -> Result<(), Fail> {
     for _ in bytes.len()..pixel_offset as usize {
         bytes.push(0)?;
@@ -134,7 +133,7 @@ fn push_unused(bytes: &mut Vec<u8>, pixel_offset: u32) -> Result<(), Fail> {
     Ok(())
 }
 
-/// The bits of a pixel, the place of the rows, the palette, the lower row and the upper one.
+/// The bits of a pixel, the offset of the rows, the palette, the lower row and the upper one.
 const DEPTHS: [(u32, u32, &[u8], &[u8], &[u8]); 5] = [
     (1, 62, PALETTE, LOW, HIGH),
     (4, 118, PALETTE, b"\x10\x1f\x55\x55", b"\x01\x0f\x55\x55"),
@@ -155,7 +154,7 @@ const DEPTHS: [(u32, u32, &[u8], &[u8], &[u8]); 5] = [
     ),
 ];
 
-// From below, turned, and from above.
+// From the bottom, upside down, and from the top.
 #[test]
 fn each_depth(rt: HostRuntime) -> Result<(), Fail> {
     for (bits, pixel_offset, palette, low, high) in DEPTHS {
@@ -170,7 +169,7 @@ fn each_depth(rt: HostRuntime) -> Result<(), Fail> {
     Ok(())
 }
 
-/// The header's size, the place of the rows, the colours used, the palette, and the answer.
+/// The header's size, the offset of the rows, the number of colours used, the palette, and the results.
 const HEADERS: [(u32, u32, u32, &[u8], &str); 9] = [
     (12, 32, 0, b"\0\0\0\xff\xff\xff", CHECKERS),
     (40, 62, 0, PALETTE, CHECKERS),
@@ -179,9 +178,9 @@ const HEADERS: [(u32, u32, u32, &[u8], &str); 9] = [
     (108, 130, 0, PALETTE, CHECKERS),
     (124, 146, 0, PALETTE, CHECKERS),
     (40, 62, 2, PALETTE, CHECKERS),
-    // Bytes between the palette and the rows are passed over.
+    // Bytes between the palette and the rows are ignored.
     (40, 65, 0, b"\0\0\0\0\xff\xff\xff\0xyz", CHECKERS),
-    // A palette of one colour, which is white; past it there is black.
+    // A palette of one colour, which is white; colours beyond it are black.
     (40, 58, 1, b"\xff\xff\xff\0", TURNED),
 ];
 
@@ -198,8 +197,8 @@ fn each_header(rt: HostRuntime) -> Result<(), Fail> {
     Ok(())
 }
 
-// A pixel of red, and one of yellow, whose mean is two thirds of white.
-/// The level in millionths, whether black is white, and the answer.
+// A red pixel, and a yellow one with a mean of two thirds of white.
+/// The level in millionths, whether pixels are inverted, and the results.
 const COLORS: [(u32, bool, &str); 6] = [
     (0, false, "../ end"),
     (333333, false, "../ end"),
@@ -227,7 +226,7 @@ fn colors_at_the_level(rt: HostRuntime) -> Result<(), Fail> {
 const TWO_HIGH: &[u8] =
     b"BM\x3e\0\0\0\0\0\0\0\x36\0\0\0\x28\0\0\0\x01\0\0\0\xfe\xff\xff\xff\x01\0\x18\0\0\0\0\0\x08\0\0\0\0\0\0\0\0\0\0\0\0\0\0\0\0\0\0\0\0\0\0\0\xff\xff\xff\0";
 
-/// How many bytes of it are there, at least and at most, and the answer.
+/// A picture, the least and the greatest number of its bytes that are there, and the results.
 const CUTS: [Cut; 3] = [
     (TWO_HIGH, 0, 1, "unknown format"),
     (TWO_HIGH, 2, 61, "truncated"),
@@ -251,14 +250,14 @@ fn failing_reads_of_pictures(rt: HostRuntime) -> Result<(), Fail> {
     check_failing(&rt, rt.alloc(), &FAILING)
 }
 
-// The rows end at place 70.
-/// What stands before a picture, the size that it claims, what stands behind it, and the answer.
+// The rows end at offset 70.
+/// The bytes before a picture, the size that it claims, the bytes after it, and the results.
 const CLAIMED: [(&[u8], u32, &[u8], &str); 9] = [
     (b"", 0, b"P1 1 1 1", "#.#/.#./ #/ end"),
     (b"", 70, b"P1 1 1 1", "#.#/.#./ #/ end"),
     (b"", 73, b"xyzP1 1 1 1", "#.#/.#./ #/ end"),
     (b"", 72, b"xyzP1 1 1 1", "#.#/.#./ trailing"),
-    // The size counts from the magic, and not from the whitespace before it.
+    // The size counts from the magic number, and not from the whitespace before it.
     (b" \n", 73, b"xyzP1 1 1 1", "#.#/.#./ #/ end"),
     (b"", 77, b"P1 1 1 1", "#.#/.#./ trailing"),
     (b"", 78, b"P1 1 1 1", "#.#/.#./ end"),

@@ -1,9 +1,9 @@
-//! BMP pictures that are refused, and those with masks.
+//! BMP pictures that are refused, and pictures with masks.
 use crate::tests::answers::tells;
 use crate::tests::bmp::{Form, LOW, PALETTE, picture, small};
 use std::test::Fail;
 
-/// The header's size, the planes, the bits, the compression, and the colours used.
+/// The header's size, the planes, the bits, the compression, and the number of colours used.
 const KINDS: [(u32, u32, u32, u32, u32); 12] = [
     (0, 1, 1, 0, 0),
     (64, 1, 1, 0, 0),
@@ -22,7 +22,7 @@ const KINDS: [(u32, u32, u32, u32, u32); 12] = [
 #[test]
 fn refused_kinds(rt: HostRuntime) -> Result<(), Fail> {
     for (header_size, planes, bits, compression, colors_used) in KINDS {
-        // The kind comes before the sides and the offset.
+        // The kind is reported before the sides and the offset.
         let form = Form {
             file_size: 0,
             pixel_offset: 0,
@@ -41,7 +41,7 @@ fn refused_kinds(rt: HostRuntime) -> Result<(), Fail> {
     Ok(())
 }
 
-/// The width, the height, the bits, the colours used, and the rows' place.
+/// The width, the height, the bits, the number of colours used, and the offset of the rows.
 const PLACES: [(u32, u32, u32, u32, u32, &str); 18] = [
     (0, 2, 1, 0, 0, "zero side"),
     (2147483648, 2147483648, 1, 0, 0, "zero side"),
@@ -80,7 +80,7 @@ fn refused_places(rt: HostRuntime) -> Result<(), Fail> {
     Ok(())
 }
 
-/// The sides in a header of 12 bytes, which has two bytes for each, and the answer.
+/// The sides in a header of 12 bytes, with two bytes for each, and the results.
 const OLDEST: [(u32, u32, &str); 5] = [
     (32767, 1, "truncated"),
     (1, 32767, "truncated"),
@@ -109,7 +109,7 @@ const PIXELS: &[u8] = b"\0\0\0\xff\xff\xff\xff\0";
 
 const OTHER_MASKS: &[u8] = b"\xff\0\0\0\0\xff\0\0\0\0\xff\0";
 
-/// The header's size, the place of the rows, the masks, the row, and the answer.
+/// The header's size, the offset of the rows, the masks, the row, and the results.
 const MASKED: [(u32, u32, &[u8], &[u8], &str); 5] = [
     (40, 66, MASKS, PIXELS, "#./ end"),
     (56, 70, b"", PIXELS, "#./ end"),

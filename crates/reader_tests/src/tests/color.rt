@@ -1,10 +1,9 @@
-//! Pages of colours, of which three samples make a pixel.
+//! Pages of colours, with three samples per pixel.
 use crate::tests::answers::{tells, tells_at};
 use crate::tests::tables::{Cut, Failing, check_cuts, check_failing, check_files};
 use std::test::Fail;
 
-/// #.#
-/// .#.
+/// The results for a picture of two rows, `#.#` above `.#.`.
 const CHECKERS: &str = "#.#/.#./ end";
 
 const PICTURES: [&[u8]; 6] = [
@@ -25,15 +24,15 @@ fn one_picture_of_colors(rt: HostRuntime) -> Result<(), Fail> {
     Ok(())
 }
 
-/// A page, the level in millionths, and the answer.
+/// A page, the level in millionths, and the results.
 const SAMPLES: [(&[u8], u32, &str); 18] = [
-    // Red, and green and blue together.
+    // A red pixel, and one of green and blue.
     (b"P3 2 1 255 255 0 0 0 255 255\n", 500000, "#./ end"),
     (b"P6 2 1 255\n\xff\x00\x00\x00\xff\xff", 500000, "#./ end"),
     (b"P6 2 1 255\n\xff\x00\x00\x00\xff\xff", 333333, "../ end"),
     (b"P6 2 1 255\n\xff\x00\x00\x00\xff\xff", 333334, "#./ end"),
     (b"P6 2 1 255\n\xff\x00\x00\x00\xff\xff", 666667, "##/ end"),
-    // Sums of 98303 and of 98302, on either side of half of three times 65535.
+    // Sums of 98303 and 98302, on both sides of half of three times 65535.
     (b"P6 1 1 65535\n\x80\x00\x80\x00\x7f\xff", 500000, "./ end"),
     (b"P6 1 1 65535\n\x80\x00\x7f\xff\x7f\xff", 500000, "#/ end"),
     (
@@ -41,7 +40,7 @@ const SAMPLES: [(&[u8], u32, &str); 18] = [
         500000,
         ".#/ end",
     ),
-    // Of a wide sample the most significant byte comes first.
+    // In a sample of two bytes the most significant byte comes first.
     (
         b"P6 2 1 256\n\x01\x00\x00\x80\x00\x00\x00\x01\x01\x00\x80\x00",
         500000,
@@ -51,7 +50,7 @@ const SAMPLES: [(&[u8], u32, &str); 18] = [
     (b"P3 2 1 4 0 0 0 0 1 0", 0, "#./ end"),
     (b"P3 2 1 4 4 4 4 0 0 4", 1000000, "##/ end"),
     (b"P3 1 1 70000 1 1 1", 500000, "bad header"),
-    // A sample above the one for white counts as it stands, and its pixel may be black.
+    // A sample greater than white isn't cut off, and its pixel may be black.
     (b"P6 2 1 2\n\x03\x00\x00\x00\x04\x00", 500000, "#./ end"),
     (b"P3 2 1 2 0 3 0 4 0 0", 500000, "#./ end"),
     (
@@ -80,7 +79,7 @@ fn color_samples_at_the_level(rt: HostRuntime) -> Result<(), Fail> {
     Ok(())
 }
 
-/// A page, and the answer where black is white.
+/// A page, and the results if pixels are inverted.
 const INVERTED: [(&[u8], &str); 4] = [
     (b"P3 2 1 255 255 0 0 0 255 255\n", ".#/ end"),
     (b"P6 2 1 255\n\xff\x00\x00\x00\xff\xff", ".#/ end"),
@@ -97,7 +96,7 @@ fn inverted_pages_of_colors(rt: HostRuntime) -> Result<(), Fail> {
     Ok(())
 }
 
-/// A file, and what it answers.
+/// A file, and the results.
 const FILES: [(&[u8], &str); 22] = [
     (b"P3 1 1 255 0 0", "truncated"),
     (b"P3 1 1 255 0 0 ", "truncated"),
@@ -136,8 +135,8 @@ const PLAIN: &[u8] = b"P3 2 1 #c\n9 0 0\t13 9 9 9\n";
 
 const RAW: &[u8] = b"P6 2 1 9\n\x00\x00\x0d\x09\x09\x09";
 
-// The last sample of a plain page ends with the byte behind it, or with the end of the file, and the last one of a raw page
-// with its own byte.
+// The last sample of a plain page ends with the byte after it, or with the end of the file. The last sample of
+// a raw page ends with its own last byte.
 const CUTS: [Cut; 6] = [
     (PLAIN, 0, 1, "unknown format"),
     (PLAIN, 2, 23, "truncated"),

@@ -3,8 +3,7 @@ use crate::tests::answers::{tells, tells_at};
 use crate::tests::tables::{Failing, check_failing, check_files};
 use std::test::Fail;
 
-/// #.#
-/// .#.
+/// The results for a picture of two rows, `#.#` above `.#.`.
 const CHECKERS: &str = "#.#/.#./ end";
 
 const PICTURES: [&[u8]; 7] = [
@@ -26,7 +25,7 @@ fn one_picture_in_each_format(rt: HostRuntime) -> Result<(), Fail> {
     Ok(())
 }
 
-/// A page, the level in millionths, and the answer.
+/// A page, the level in millionths, and the results.
 const SAMPLES: [(&[u8], u32, &str); 13] = [
     (b"P5\n2 1\n65535\n\x7f\xff\x80\x00", 500000, "#./ end"),
     (b"P2 2 1 65535 32767 32768", 500000, "#./ end"),
@@ -37,7 +36,7 @@ const SAMPLES: [(&[u8], u32, &str); 13] = [
     (b"P2 3 1 4 0 1 4", 0, "#../ end"),
     (b"P2 3 1 4 0 3 4", 1000000, "###/ end"),
     (b"P2 3 1 1000000 1", 500000, "bad header"),
-    // A sample above the one for white is read as it stands.
+    // A sample greater than white is read as it is.
     (b"P5 2 1 10\n\x0a\x0b", 1000000, "#./ end"),
     (b"P5 1 1 300\n\xff\xff", 1000000, "./ end"),
     (b"P2 2 1 10 11 10", 1000000, ".#/ end"),
@@ -57,7 +56,7 @@ fn samples_at_the_level(rt: HostRuntime) -> Result<(), Fail> {
     Ok(())
 }
 
-/// A page, and the answer where black is white.
+/// A page, and the results if pixels are inverted.
 const INVERTED: [(&[u8], &str); 6] = [
     (b"P1 1 1 0\n", "#/ end"),
     (b"P1 3 1 010", "#.#/ end"),
@@ -107,8 +106,8 @@ fn refused_gray_pages(rt: HostRuntime) -> Result<(), Fail> {
     check_files(&rt, rt.alloc(), &REFUSED)
 }
 
-// The last sample of a plain page ends with the byte behind it, or with the end of the file, and the last one of a raw page
-// with its own byte.
+// The last sample of a plain page ends with the byte after it, or with the end of the file. The last sample of
+// a raw page ends with its own last byte.
 const FAILING: [Failing; 6] = [
     (b"P2 1 1 255 0", 12, 12, "read fault"),
     (b"P2 1 1 255 0", 13, 13, "read fault"),

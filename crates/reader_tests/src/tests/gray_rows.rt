@@ -8,7 +8,7 @@ use pt_core::Inputs;
 use std::alloc::Global;
 use std::test::Fail;
 
-/// Whether the rows of a file are these, however many bytes a read gives.
+/// Whether the head and the rows of a file are this text, however many bytes a read returns.
 fn gives(alloc: Global, bytes: &[u8], text: &str) -> Result<bool, Fail> {
     let whole = rows(alloc, bytes, 65536, &[])?;
     let single = rows(alloc, bytes, 1, &[])?;
@@ -49,7 +49,7 @@ fn show(alloc: Global, row: &[u16], text: &mut String) -> Result<(), Fail> {
     Ok(())
 }
 
-/// A file, and its head and rows.
+/// A file, with its head and rows.
 const PAGES: [(&[u8], &str); 13] = [
     (b"P2 2 1 1 0 1", "2 1 1/ 0 1"),
     (b"P5 2 2 255\n\x00\x01\x02\xff", "2 2 255/ 0 1/ 2 255"),
@@ -57,10 +57,10 @@ const PAGES: [(&[u8], &str); 13] = [
     // What follows the page isn't read.
     (b"P2 1 1 9 4 5 6", "1 1 9/ 4"),
     (b"P5 1 1 9\n\x04P5 1 1", "1 1 9/ 4"),
-    // A sample above the one for white stays, and one above 65535 is given as 65535.
+    // A sample greater than white stays as it is, and one above 65535 is returned as 65535.
     (b"P2 3 1 10 11 65536 100001", "3 1 10/ 11 65535 65535"),
     (b"P5 1 1 10\n\x0b", "1 1 10/ 11"),
-    // The rows before a cut are given.
+    // The rows before the end of a truncated page are returned.
     (b"P2 1 3 9 1 2", "1 3 9/ 1/ 2/truncated"),
     (b"P5 2 2 9\n\x01\x02\x03", "2 2 9/ 1 2/truncated"),
     (b"P2 1 2 9 1 x", "1 2 9/ 1/bad raster"),
@@ -79,12 +79,12 @@ fn pages_row_by_row(rt: HostRuntime) -> Result<(), Fail> {
     Ok(())
 }
 
-/// A page, the read that fails where each gives a byte, and the rows before.
+/// A page, the read that fails if each read returns one byte, and the rows before it.
 const FAILING: [(&[u8], u64, &str); 4] = [
     (b"P5 1 2 9\n\x01\x02", 1, "read fault"),
     (b"P5 1 2 9\n\x01\x02", 10, "1 2 9/read fault"),
     (b"P5 1 2 9\n\x01\x02", 11, "1 2 9/ 1/read fault"),
-    // Where a last number may go on, its end is asked for.
+    // If more digits could follow a last number, the reader looks for its end.
     (b"P2 1 1 9 1", 11, "1 1 9/read fault"),
 ];
 

@@ -1,11 +1,11 @@
-//! PBM pages, faults' texts, and reads that fail.
+//! PBM pages, the texts of faults, and reads that fail.
 
 use crate::tests::answers::tells_at;
 use crate::tests::tables::{Cut, Failing, check_cuts, check_failing, check_files};
 use bitmap_input::InFault;
 use std::test::Fail;
 
-/// Files, and what the reader answers.
+/// Files, and the results of the reader.
 const FILES: [(&[u8], &str); 15] = [
     (b"P1 1 1 1\n", "#/ end"),
     (b"P1 1 1 0", "./ end"),
@@ -53,8 +53,8 @@ fn cut_files(rt: HostRuntime) -> Result<(), Fail> {
 
 const TWO: &[u8] = b"P4 1 1\n\x80P1 1 1\n0";
 
-// The first page is whole with its eighth byte, the second with the sixteenth, and the seventeenth
-// read finds the end.
+// The first page is complete with its eighth byte, the second page with the sixteenth, and the seventeenth read
+// finds the end.
 const FAILING: [Failing; 4] = [
     (TWO, 1, 8, "read fault"),
     (TWO, 9, 16, "#/ read fault"),

@@ -1,4 +1,4 @@
-//! Rows of bits and of samples, which are put by words, beside the same rows pixel by pixel.
+//! Rows of bits and of samples, which are stored word by word, beside the same rows pixel by pixel.
 use crate::tests::answers::tells_at;
 use std::alloc::Global;
 use std::test::Fail;
@@ -8,7 +8,7 @@ fn is_black(x: u32) -> bool {
     (x.wrapping_mul(37) ^ x / 5) % 3 == 0
 }
 
-/// What the reader answers on the row, pixel by pixel.
+/// The results of the reader on the row, pixel by pixel.
 fn shown(alloc: Global, width: u32, invert: bool) -> Result<String, Fail> {
     let mut text = String::new(alloc);
     for x in 0..width {
@@ -18,7 +18,7 @@ fn shown(alloc: Global, width: u32, invert: bool) -> Result<String, Fail> {
     Ok(text)
 }
 
-/// A page's magic, its sides, and what stands before its row.
+/// A page's magic number, its sides, and what comes before its row.
 fn head(alloc: Global, magic: &str, width: u32, behind: &str) -> Result<Vec<u8>, Fail> {
     let head = format!(in alloc; "{magic} {width} 1{behind}")?;
     Ok(Vec::from_slice(alloc, head.as_bytes())?)
@@ -33,7 +33,7 @@ fn plain(alloc: Global, width: u32) -> Result<Vec<u8>, Fail> {
     Ok(bytes)
 }
 
-/// The byte of the eight pixels from this column on.
+/// The byte of the eight pixels that start in this column.
 fn packed(from: u32) -> u8 {
     let mut byte = 0u8;
     for i in 0..8 {
@@ -42,7 +42,7 @@ fn packed(from: u32) -> u8 {
     byte
 }
 
-/// The same row as packed bits, and pixels of some kind past the width.
+/// The row as packed bits, with other pixels beyond the width.
 fn raw(alloc: Global, width: u32) -> Result<Vec<u8>, Fail> {
     let mut bytes = head(alloc, "P4", width, "\n")?;
     for at in 0..width.div_ceil(8) {
@@ -51,7 +51,7 @@ fn raw(alloc: Global, width: u32) -> Result<Vec<u8>, Fail> {
     Ok(bytes)
 }
 
-/// The same row as samples of a byte.
+/// The row as samples of one byte.
 fn gray(alloc: Global, width: u32) -> Result<Vec<u8>, Fail> {
     let mut bytes = head(alloc, "P5", width, " 255\n")?;
     for x in 0..width {
@@ -60,7 +60,7 @@ fn gray(alloc: Global, width: u32) -> Result<Vec<u8>, Fail> {
     Ok(bytes)
 }
 
-/// The same row as three samples of a byte.
+/// The row as colours, with three samples of one byte each.
 fn colors(alloc: Global, width: u32) -> Result<Vec<u8>, Fail> {
     let mut bytes = head(alloc, "P6", width, " 255\n")?;
     for x in 0..width {
@@ -70,7 +70,7 @@ fn colors(alloc: Global, width: u32) -> Result<Vec<u8>, Fail> {
     Ok(bytes)
 }
 
-/// Whether the reader answers so on the row as it stands in a file.
+/// Whether the results of the reader on a file are those of the row.
 fn tells(alloc: Global, file: &[u8], width: u32, invert: bool) -> Result<bool, Fail> {
     let text = shown(alloc, width, invert)?;
     tells_at(alloc, file, 500000, invert, text.as_str())

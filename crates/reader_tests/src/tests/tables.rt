@@ -1,10 +1,10 @@
-//! Tables of files, and what the reader answers on each.
+//! Tables of files, with the results of the reader on each.
 use crate::tests::answers::{tells, tells_failing};
 use std::alloc::Global;
 use std::process::Abort;
 use std::test::Fail;
 
-/// Looks at each file's answer.
+/// Checks the results on each file.
 pub(super) fn check_files(
     rt: &impl Abort,
     alloc: Global,
@@ -17,10 +17,10 @@ pub(super) fn check_files(
     Ok(())
 }
 
-/// A file, how many of its bytes are there, at least and at most, and the answer.
+/// A file, the least and the greatest number of its bytes that are there, and the results.
 pub(super) type Cut<'a> = (&'a [u8], usize, usize, &'a str);
 
-/// Looks at the answer to each front of a file.
+/// Checks the results on each prefix of a file.
 pub(super) fn check_cuts(rt: &impl Abort, alloc: Global, cuts: &[Cut]) -> Result<(), Fail> {
     for (bytes, first, last, text) in cuts {
         for n in *first..=*last {
@@ -33,10 +33,10 @@ pub(super) fn check_cuts(rt: &impl Abort, alloc: Global, cuts: &[Cut]) -> Result
     Ok(())
 }
 
-/// A file, the first and the last of the reads of which one fails, and the answer.
+/// A file, the first and the last of the reads that fail in turn, and the results.
 pub(super) type Failing<'a> = (&'a [u8], u64, u64, &'a str);
 
-/// Looks at the answer where each of these reads fails.
+/// Checks the results if each of these reads fails in turn.
 pub(super) fn check_failing(
     rt: &impl Abort,
     alloc: Global,
