@@ -1,4 +1,4 @@
--- Vertices of the grid, as points of the plane: corner (x, y) is the lower left corner of pixel (x, y).
+-- Corners of the grid, as points of the plane: corner (x, y) is the lower left corner of pixel (x, y).
 use Rattle.std.specs.Prelude.{pos, ◌≤ℤ◌}
 use Rattle.pt_core.specs.declared.point.Point.{Point}
 
