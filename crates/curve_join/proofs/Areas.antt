@@ -15,10 +15,10 @@ use Rattle.pt_core.specs.ClosedWalk.{origin}
 use Rattle.pt_core.specs.Outlines.{end_of}
 use Rattle.pt_core.specs.declared.piece.Piece.TheVariants.{Corner}
 use Rattle.pt_core.specs.declared.point.Point.{Point}
-use Rattle.curve_join.proofs.Cutting.{bends_at, length-bends_of, slice_at}
-use Rattle.curve_join.proofs.Fitting.{cross_most, difference_most, long_back, product_most, sum_most, within_far}
+use Rattle.curve_join.proofs.Cuts.{bends_at, length-bends_of, slice_at}
+use Rattle.curve_join.proofs.Widths.{cross_most, difference_most, long_back, product_most, sum_most, within_far}
 use Rattle.curve_join.proofs.Meetings.{way_within}
-use Rattle.curve_join.proofs.Running.{total_more}
+use Rattle.curve_join.proofs.RunSums.{total_more}
 use Rattle.curve_join.specs.Inner.Areas.{AreLinked, area_up_to, areas_of}
 use Rattle.curve_join.specs.Inner.Bends.{IsWorkable}
 use Rattle.curve_join.specs.Bends.{bends_of}

@@ -9,8 +9,8 @@ use Rattle.pt_core.specs.Floor.{floor_of}
 use Rattle.curve_join.specs.Cubic.{cubic}
 use Rattle.curve_join.specs.Inner.Powers.{ArePowersOf, AreSmallPowers, power_sum}
 use Rattle.curve_join.specs.declared.stand_in.Powers.{Powers}
-use Rattle.curve_join.proofs.Fitting.{again, back, product_most, size_back, sum_most}
-use Rattle.curve_join.proofs.Mixing.{WeightedTerm, four_most, part_most, short_back, weights}
+use Rattle.curve_join.proofs.Widths.{again, back, product_most, size_back, sum_most}
+use Rattle.curve_join.proofs.WeightedSums.{WeightedTerm, four_most, part_most, short_back, weights}
 
 -- Horner's rule multiplied out
 module _ (u : ℕ) where

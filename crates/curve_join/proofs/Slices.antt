@@ -6,7 +6,7 @@ use Rattle.std.specs.Prelude.{is_some}
 use Rattle.std.specs.List.{slice_range}
 use Rattle.pt_core.specs.declared.piece.Piece.{Piece}
 use Rattle.curve_join.specs.Choice.{MayBeOne, run_penalty}
-use Rattle.curve_join.proofs.Giving.{IsJoinGiven}
+use Rattle.curve_join.proofs.RunPenalties.{IsJoinGiven}
 use Rattle.curve_join.specs.Join.{MayJoin, joined_piece, penalty_at}
 use Rattle.curve_join.specs.declared.bend.Bend.{Bend}
 

@@ -1,2 +1,2 @@
 mod Examples
-pub mod Drawing
+pub mod Draws

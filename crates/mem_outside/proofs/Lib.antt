@@ -1,3 +1,3 @@
-pub mod Finding
+pub mod FirstFiles
 pub mod Places
-pub mod Shelving
+pub mod ShelfBytes

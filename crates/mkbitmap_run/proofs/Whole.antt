@@ -19,10 +19,10 @@ use Rattle.mkbitmap_run.specs.PageHeader.{PageHeader}
 use Rattle.mkbitmap_run.specs.Result.{result_head, result_page, result_row, result_rows, result_text, scan_of}
 use Rattle.mkbitmap_run.specs.FilterRun.{WritesResult, rows_behind}
 use Rattle.mkbitmap_run.specs.Shown.{WritesPage, filtered_page}
-use Rattle.mkbitmap_run.proofs.Breaking.{pos_of}
-use Rattle.mkbitmap_run.proofs.Drawing.{rows_next}
-use Rattle.mkbitmap_run.proofs.Heading.{header_sided}
-use Rattle.mkbitmap_run.proofs.Working.{fits_both}
+use Rattle.mkbitmap_run.proofs.BrokenOff.{pos_of}
+use Rattle.mkbitmap_run.proofs.ResultRows.{rows_next}
+use Rattle.mkbitmap_run.proofs.HeaderEndings.{header_sided}
+use Rattle.mkbitmap_run.proofs.PageWork.{fits_both}
 
 range_more : (a n : ℕ) → range_with_len a (suc n) ≡ range_with_len a n ++ (a + n) ∷ []
 range_more a zero = let e : a ≡ a + 0 = omega arith in ap (λ k. k ∷ []) e

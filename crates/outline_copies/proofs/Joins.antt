@@ -17,7 +17,7 @@ use Rattle.curve_join.specs.Choice.{IsBestJoin, MayBeOne, cut_pieces, run_penalt
 use Rattle.curve_join.specs.Join.{MayJoin, joined_piece, penalty_at}
 use Rattle.curve_join.specs.Outline.{outline}
 use Rattle.curve_join.specs.declared.bend.Bend.{Bend}
-use Rattle.curve_join.proofs.Cutting.{length-bends_of, slice_length, step_there}
+use Rattle.curve_join.proofs.Cuts.{length-bends_of, slice_length, step_there}
 use Rattle.outline_copies.specs.Moved.{moved_by, piece_moved_by}
 use Rattle.outline_copies.proofs.Bends.{bend_moved, bends_moved}
 use Rattle.outline_copies.proofs.Lists.{mapped_range}

@@ -1,8 +1,8 @@
-pub mod Spelling
+pub mod UniqueReading
 pub mod Traced
-pub mod Looping
-pub mod Marking
-pub mod Sweeping
-pub mod Pathing
+pub mod LoopPoints
+pub mod Marks
+pub mod RowSweeps
+pub mod PathLists
 pub mod Whole
 mod Examples

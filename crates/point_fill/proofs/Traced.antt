@@ -26,7 +26,7 @@ use Rattle.path_decompose.proofs.Walked.{white_through}
 use Rattle.point_fill.specs.PointsFile.{IsToldPath}
 use Rattle.point_fill.specs.Filled as filled
 use Rattle.point_fill.specs.Filled.{IsFilled}
-use Rattle.point_fill.proofs.Spelling.{one_reading}
+use Rattle.point_fill.proofs.UniqueReading.{one_reading}
 
 -- a text fills one page
 pub one_filled : (text : List ℕ) (page other : Page) → IsFilled text page → IsFilled text other → other ≡ page

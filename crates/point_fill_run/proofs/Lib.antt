@@ -1,1 +1,1 @@
-pub mod Rounding
+pub mod RoundTrip

@@ -1,5 +1,5 @@
 pub mod Calls
-pub mod Cutting
+pub mod CutParts
 pub mod NameExamples
-pub mod Naming
-pub mod Saying
+pub mod NameCounts
+pub mod PieceRuns

@@ -1,2 +1,2 @@
-pub mod Taking
-pub mod Running
+pub mod TakenInput
+pub mod Endings

@@ -1,8 +1,8 @@
 use Rattle.std.proofs.Common.{◌≡◌, ℕ, ◌≤◌, ◌^◌, ℤ, pos, ◌+ℤ◌, ◌*ℤ◌, w32, w64, to_z, of_z, refl, arith}
 use Rattle.std.specs.Prelude.{unsigned_abs}
 use Rattle.pt_core.specs.Floor.{floor_of}
-use Rattle.curve_join.proofs.Fitting.{back, short_size_back, size_back}
-use Rattle.curve_join.proofs.Mixing.{short_back, short_size}
+use Rattle.curve_join.proofs.Widths.{back, short_size_back, size_back}
+use Rattle.curve_join.proofs.WeightedSums.{short_back, short_size}
 use Rattle.curve_join.proofs.cubic.control.Goals as goal
 
 -- a coordinate of the control

@@ -5,7 +5,7 @@ use Rattle.std.specs.Prelude.{unsigned_abs}
 use Rattle.std.specs.Int.RustNames.{FitsSigned}
 use Rattle.pt_core.specs.Floor.{floor_of}
 use Rattle.curve_join.proofs.Division.{shift_is, short_shift}
-use Rattle.curve_join.proofs.Fitting.{back, long_back, product_most}
+use Rattle.curve_join.proofs.Widths.{back, long_back, product_most}
 use Rattle.curve_join.proofs.meeting.part_of.Goals as goal
 
 -- a short product

@@ -5,7 +5,7 @@ use lib.Signed.{le_z}
 use Rattle.curve_join.specs.Vector.{towards}
 use Rattle.curve_join.specs.declared.sense.Sense.{Sense}
 use Rattle.curve_join.specs.declared.sense.Sense.TheVariants.{Left, Right}
-use Rattle.curve_join.proofs.Fitting.{back, size_counted, within_far}
+use Rattle.curve_join.proofs.Widths.{back, size_counted, within_far}
 use Rattle.curve_join.proofs.run.goes_round.Goals as goal
 
 -- a number that the code counts in a sense

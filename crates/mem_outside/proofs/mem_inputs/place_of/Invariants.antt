@@ -1,5 +1,5 @@
 use Rattle.std.proofs.Common.{◌≡◌, drop}
-use Rattle.mem_outside.proofs.Finding.{found}
+use Rattle.mem_outside.proofs.FirstFiles.{found}
 use Rattle.mem_outside.proofs.mem_inputs.place_of.Given as goal
 
 -- the name isn't among the files so far

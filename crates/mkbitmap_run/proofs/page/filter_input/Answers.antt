@@ -2,8 +2,8 @@ use Rattle.std.proofs.Common.{ℕ, Err, refl, ap, subst}
 use Rattle.bitmap_input.specs.Inner.Reading.{CountsBy}
 use Rattle.bitmap_input.specs.Reading.{cause_of_fault}
 use Rattle.run_output.specs.Told.{source_of}
-use Rattle.small_program.proofs.Taking.{nothing_taken}
-use Rattle.mkbitmap_run.proofs.Heading.{header_stands, not_opened, run_at_head, run_out_of_memory, run_unopened}
+use Rattle.small_program.proofs.TakenInput.{nothing_taken}
+use Rattle.mkbitmap_run.proofs.HeaderEndings.{header_stands, not_opened, run_at_head, run_out_of_memory, run_unopened}
 use Rattle.mkbitmap_run.proofs.page.filter_input.Goals as goal
 
 -- standard input can't be opened

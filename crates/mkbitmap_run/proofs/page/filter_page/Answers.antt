@@ -5,8 +5,8 @@ use Rattle.run_output.specs.Told.{source_of}
 use Rattle.mkbitmap_run.specs.declared.fault.Break.TheVariants as breaks
 use Rattle.mkbitmap_run.specs.Inner.FilterWork.{MayRead}
 use Rattle.mkbitmap_run.specs.Rows.{fits_result}
-use Rattle.mkbitmap_run.proofs.Heading.{run_at_row, run_out_of_memory, run_too_large, there_behind_head}
-use Rattle.mkbitmap_run.proofs.Running.{run_done, run_unwritten, runs_page, with_setup}
+use Rattle.mkbitmap_run.proofs.HeaderEndings.{run_at_row, run_out_of_memory, run_too_large, there_behind_head}
+use Rattle.mkbitmap_run.proofs.PageEndings.{run_done, run_unwritten, runs_page, with_setup}
 use Rattle.mkbitmap_run.proofs.page.filter_page.Goals as goal
 
 -- the page can be put

@@ -1,7 +1,7 @@
 use Rattle.std.proofs.Common.{ℕ, List, subst}
 use Rattle.run_output.specs.Told.{IsMessage, told_of}
 use Rattle.mkbitmap_run.specs.FilterRun.{page_says}
-use Rattle.mkbitmap_run.proofs.Heading.{refused_cause}
+use Rattle.mkbitmap_run.proofs.HeaderEndings.{refused_cause}
 use Rattle.mkbitmap_run.proofs.say.say_fault.Goals as goal
 
 pub returns-in-ReadFault-clause-says : goal.returns-in-ReadFault-clause-says

@@ -3,7 +3,7 @@ use Rattle.std.specs.Prelude.{string_bytes}
 use Rattle.clap.specs.Walk.{rows_of}
 use Rattle.clap.specs.Matches.{found_of}
 use Rattle.clap.specs.Simple.{app_of}
-use Rattle.mkbitmap_words.proofs.Asking.{gives_by, gives_none, helps_by, refuses_by}
+use Rattle.mkbitmap_words.proofs.FilterAsks.{gives_by, gives_none, helps_by, refuses_by}
 use Rattle.mkbitmap_words.proofs.ask.filter_ask_of.Goals as goal
 
 -- the options give a setup

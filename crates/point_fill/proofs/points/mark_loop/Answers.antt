@@ -6,8 +6,8 @@ use Rattle.bit_image.specs.Page.{Page, SameSides}
 use Rattle.list_reader.specs.Inner.LineEntries.{IsEntry}
 use Rattle.list_reader.specs.PagePoints.{IsInPage}
 use Rattle.list_reader.proofs.Nothing.{if_none}
-use Rattle.point_fill.proofs.Looping.{first_read, next_read, loop_read, last_is_corner, no_loop_without_first, no_loop_without_point, no_loop_by_step, no_loop_of_few, no_loop_open}
-use Rattle.point_fill.proofs.Spelling.{corner_of}
+use Rattle.point_fill.proofs.LoopPoints.{first_read, next_read, loop_read, last_is_corner, no_loop_without_first, no_loop_without_point, no_loop_by_step, no_loop_of_few, no_loop_open}
+use Rattle.point_fill.proofs.UniqueReading.{corner_of}
 use Rattle.point_fill.proofs.points.mark_loop.Goals as goal
 
 -- a point of a page of these sides, and none

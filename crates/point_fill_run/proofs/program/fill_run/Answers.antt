@@ -1,5 +1,5 @@
 use Rattle.point_fill.proofs.Traced.{traced}
-use Rattle.point_fill_run.proofs.Rounding.{page_comes_back}
+use Rattle.point_fill_run.proofs.RoundTrip.{page_comes_back}
 use Rattle.point_fill_run.proofs.program.fill_run.Goals as goal
 
 -- the page's text fills it

@@ -3,7 +3,7 @@ use Rattle.std.specs.Prelude.{string_bytes}
 use Rattle.clap.specs.Walk.{rows_of}
 use Rattle.clap.specs.Matches.{found_of}
 use Rattle.clap.specs.Simple.{app_of}
-use Rattle.potrace_options.proofs.Parsing.{gives_by, helps_by, refuses_by}
+use Rattle.potrace_options.proofs.ParseAnswers.{gives_by, helps_by, refuses_by}
 use Rattle.potrace_options.proofs.parsed.parse.Goals as goal
 
 -- the words are taken

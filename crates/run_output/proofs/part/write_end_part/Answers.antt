@@ -1,6 +1,6 @@
 use Rattle.std.proofs.Common.{◌∙◌, ap}
 use Rattle.std.specs.Prelude.{decimal}
-use Rattle.run_output.proofs.Cutting.{end_cut_in}
+use Rattle.run_output.proofs.CutParts.{end_cut_in}
 use Rattle.run_output.proofs.part.write_end_part.Goals as goal
 
 -- the part is cut off

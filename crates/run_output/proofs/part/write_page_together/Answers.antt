@@ -1,6 +1,6 @@
 use Rattle.std.proofs.Common.{◌∙◌, ◌+◌, ap}
 use Rattle.std.specs.Prelude.{decimal}
-use Rattle.run_output.proofs.Cutting.{page_cut_in}
+use Rattle.run_output.proofs.CutParts.{page_cut_in}
 use Rattle.run_output.proofs.part.write_page_together.Goals as goal
 
 -- the part is cut off

@@ -1,5 +1,5 @@
 use Rattle.std.proofs.Common.{map}
-use Rattle.run_output.proofs.Cutting.{cut_at_end}
+use Rattle.run_output.proofs.CutParts.{cut_at_end}
 use Rattle.run_output.proofs.part.write_part.Goals as goal
 
 -- all is written, and only the end fails

@@ -1,5 +1,5 @@
 use Rattle.std.proofs.Common.{arith}
-use Rattle.small_program.proofs.Taking.{input_of_taken, nothing_taken}
+use Rattle.small_program.proofs.TakenInput.{input_of_taken, nothing_taken}
 use Rattle.small_program.proofs.input.read_all.Goals as goal
 
 -- what was taken is more than a program takes, and so is the whole

@@ -1,5 +1,5 @@
 use Rattle.std.proofs.Common.{◌≡◌, refl, length, rules}
-use Rattle.small_program.proofs.Running.{run_replied, run_stopped}
+use Rattle.small_program.proofs.Endings.{run_replied, run_stopped}
 use Rattle.small_program.proofs.program.run.Goals as goal
 
 -- standard input isn't there whole

@@ -2,8 +2,8 @@ use Rattle.std.proofs.Common.{◌≡◌, ◌-◌, pos, ◌*ℤ◌, get_or, ap, �
 use Rattle.std.proofs.lemmas.List.{get_or_read}
 use Rattle.pt_core.specs.ClosedWalk.{origin}
 use Rattle.curve_join.proofs.Areas.{area_fits_too, area_read, area_worked, areas_length, between_fits}
-use Rattle.curve_join.proofs.Fitting.{back}
-use Rattle.curve_join.proofs.Joining.{crosses}
+use Rattle.curve_join.proofs.Widths.{back}
+use Rattle.curve_join.proofs.JoinedRuns.{crosses}
 use Rattle.curve_join.specs.Inner.Areas.{area_up_to}
 use Rattle.curve_join.specs.Join.{no_bend}
 use Rattle.curve_join.specs.Vector.{vector_cross, way_of}

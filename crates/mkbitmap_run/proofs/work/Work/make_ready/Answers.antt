@@ -3,8 +3,8 @@ use Rattle.std.proofs.lemmas.List.{with_items_is}
 use Rattle.mkbitmap.specs.Enlarged.{after_of}
 use Rattle.mkbitmap.specs.Follows.{IsRow}
 use Rattle.mkbitmap.proofs.Order.{after-ends}
-use Rattle.mkbitmap_run.proofs.Giving.{stops_row}
-use Rattle.mkbitmap_run.proofs.Working.{along_none, along_on, along_step, along_taken, along_then, can_still, ge_of, is_less, lt_of, one_needed, one_there, same_need}
+use Rattle.mkbitmap_run.proofs.GivenRows.{stops_row}
+use Rattle.mkbitmap_run.proofs.PageWork.{along_none, along_on, along_step, along_taken, along_then, can_still, ge_of, is_less, lt_of, one_needed, one_there, same_need}
 use Rattle.mkbitmap_run.proofs.work.Work.make_ready.Goals as goal
 
 -- no row was read yet

@@ -2,7 +2,7 @@ use Rattle.std.proofs.Common.{◌≡◌, ℕ, List, ◌++◌, ◌*◌, ◌≤◌
 use Rattle.bit_image.specs.PbmText.{pbm_head}
 use Rattle.bitmap_input.specs.declared.gray_reader.GrayHead.{GrayHead}
 use Rattle.mkbitmap_run.specs.Inner.FilterWork.{IsGrayHead, setup_of}
-use Rattle.mkbitmap_run.proofs.Working.{work_start}
+use Rattle.mkbitmap_run.proofs.PageWork.{work_start}
 use Rattle.mkbitmap_run.proofs.work.Work.new.Goals as goal
 
 -- both are before the first row

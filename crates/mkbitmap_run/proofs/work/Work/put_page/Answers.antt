@@ -4,10 +4,10 @@ use Rattle.run_output.specs.Names.{dash}
 use Rattle.run_output.specs.Told.{told_of}
 use Rattle.mkbitmap_run.specs.Inner.Put.{world_of}
 use Rattle.mkbitmap_run.specs.Inner.FilterWork.{header_of, setup_of}
-use Rattle.mkbitmap_run.proofs.Breaking.{ends_on, head_put, page_breaks, page_cut, page_put}
+use Rattle.mkbitmap_run.proofs.BrokenOff.{ends_on, head_put, page_breaks, page_cut, page_put}
 use Rattle.run_output.proofs.Calls.{broke_on, went_on}
-use Rattle.mkbitmap_run.proofs.Cutting.{opened_with}
-use Rattle.mkbitmap_run.proofs.Giving.{gives_none}
+use Rattle.mkbitmap_run.proofs.CutDocuments.{opened_with}
+use Rattle.mkbitmap_run.proofs.GivenRows.{gives_none}
 use Rattle.mkbitmap_run.proofs.work.Work.put_page.Goals as goal
 
 -- it wasn't begun

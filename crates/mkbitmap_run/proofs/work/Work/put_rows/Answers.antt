@@ -1,6 +1,6 @@
 use Rattle.std.proofs.Common.{◌≡◌, ◌*◌, Err, refl, ap, ◌∙◌, arith}
 use Rattle.mkbitmap_run.specs.Inner.Put.{world_of}
-use Rattle.mkbitmap_run.proofs.Breaking.{above_none, above_too, all_put, can_put, ends_on, rows_break}
+use Rattle.mkbitmap_run.proofs.BrokenOff.{above_none, above_too, all_put, can_put, ends_on, rows_break}
 use Rattle.mkbitmap_run.proofs.work.Work.put_rows.Goals as goal
 
 -- nothing is written yet

@@ -3,7 +3,7 @@ use Rattle.std.specs.Prelude.{string_bytes}
 use Rattle.run_output.specs.Made.{Past}
 use Rattle.run_output.specs.Inner.Made.{made_by}
 use Rattle.run_output.specs.Names.{made_with}
-use Rattle.run_output.proofs.Naming.{length-made_with, made_by_push, same_past}
+use Rattle.run_output.proofs.NameCounts.{length-made_with, made_by_push, same_past}
 use Rattle.run_output.proofs.made.Made.add.Goals as goal
 
 -- one file more

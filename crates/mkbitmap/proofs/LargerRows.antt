@@ -14,7 +14,7 @@ use Rattle.mkbitmap.specs.Packing.{padded}
 use Rattle.mkbitmap.specs.Filtering.{Filtering}
 use Rattle.mkbitmap.specs.Follows.{Follows}
 use Rattle.mkbitmap.specs.declared.limits.TheConstants.{GREATEST_MAXVAL, GREATEST_RELIEF}
-use Rattle.mkbitmap.proofs.Raising.{raised-most}
+use Rattle.mkbitmap.proofs.ReliefBounds.{raised-most}
 
 -- a box has a pixel
 area_some : (page : Gray) (radius x y : ℕ) → x < page.width → y < page.height → 0 < box_area page radius x y

@@ -8,8 +8,8 @@ use Rattle.pt_core.specs.Floor.{floor_of}
 use Rattle.mkbitmap.specs.Box.{Gray, box_from, box_end, box_count, box_area, column_sum, box_sum}
 use Rattle.mkbitmap.specs.Relief.{relief_by, relief_of, raised_by, raised_of}
 use Rattle.mkbitmap.specs.Enlarged.{centre_of, centre_before, behind_of, clamped, relief_near, mixed, is_black, after_of, distance_behind, before_within, mixed_raised, dark_limit, need}
-use Rattle.mkbitmap.proofs.Mixing.{times_less, mixture, mixed_by, black_by}
-use Rattle.mkbitmap.proofs.Adding.{sum-most}
+use Rattle.mkbitmap.proofs.Mixtures.{times_less, mixture, mixed_by, black_by}
+use Rattle.mkbitmap.proofs.BoxSums.{sum-most}
 
 -- a multiple of the divisor more
 more_div : (m b k : ℕ) → 0 < b → (m + b * k) / b ≡ m / b + k

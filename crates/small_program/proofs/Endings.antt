@@ -14,7 +14,7 @@ use Rattle.run_output.specs.declared.status.Status.TheVariants as status
 use Rattle.small_program.specs.declared.input.InputStop.{InputStop}
 use Rattle.small_program.specs.declared.input.InputStop.TheVariants as stops
 use Rattle.small_program.specs.declared.input.TheConstants.{MOST_BYTES}
-use Rattle.small_program.proofs.Taking.{is_not_missing, is_there, one_input}
+use Rattle.small_program.proofs.TakenInput.{is_not_missing, is_there, one_input}
 
 -- what is known where standard input isn't there whole
 pub record IsInputStopped (stop : InputStop) (source source_now : Source) : Type 0 where

@@ -10,7 +10,7 @@ use Rattle.mkbitmap_words.specs.declared.setup.Setup.{Setup}
 use Rattle.mkbitmap_run.specs.FilterRun.{IsCutAt, need_of, rows_above, HasFirstRows}
 use Rattle.mkbitmap_run.specs.Inner.Put.{PutsRows}
 use Rattle.mkbitmap_run.specs.Result.{result_head, result_row, result_rows, result_text, scan_of}
-use Rattle.mkbitmap_run.proofs.Drawing.{front_is, rows_end}
+use Rattle.mkbitmap_run.proofs.ResultRows.{front_is, rows_end}
 
 pub opened_with : (told : Option Documents) (name bytes more : List ℕ) → with_bytes (with_open told name bytes) more ≡ with_open told name (bytes ++ more)
 opened_with None name bytes more = refl

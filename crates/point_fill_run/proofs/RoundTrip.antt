@@ -8,7 +8,7 @@ use Rattle.small_program.specs.ProgramRun.{HasDone, IsProgramRun, Writes}
 use Rattle.small_program.specs.Reply.{IsReply}
 use Rattle.run_output.specs.declared.status.Status.{Status}
 use Rattle.run_output.specs.declared.status.Status.TheVariants as status
-use Rattle.small_program.proofs.Taking.{one_input}
+use Rattle.small_program.proofs.TakenInput.{one_input}
 use Rattle.point_fill.specs.Filled.{IsFilled}
 use Rattle.point_fill_run.specs.FillReply.{IsFillReply, filler}
 use Rattle.point_fill_run.specs.Inner.OneFillReply.{one_fill_text}

@@ -15,7 +15,7 @@ use Rattle.mkbitmap_run.specs.PageHeader.{PageHeader}
 use Rattle.mkbitmap_run.specs.Rows.{LeavesRows, cut_row}
 use Rattle.mkbitmap_run.specs.Inner.FilterWork.{GivesRows, StopsRow, header_of}
 use Rattle.mkbitmap_run.specs.FilterRun.{HasFirstRows}
-use Rattle.mkbitmap_run.proofs.Standing.{cut_stays, leaves_on, leaves_weaken}
+use Rattle.mkbitmap_run.proofs.RowPrefixes.{cut_stays, leaves_on, leaves_weaken}
 
 -- none were given
 pub gives_none : (reader : GraySource) (files : Option Files) → GivesRows reader files [] reader files

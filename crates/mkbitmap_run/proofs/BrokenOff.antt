@@ -9,7 +9,7 @@ use Rattle.bitmap_input.specs.Reading.{cause_of_fault}
 use Rattle.bitmap_input.specs.declared.gray_reader.GrayHead.{GrayHead}
 use Rattle.mkbitmap.specs.Box.{Gray}
 use Rattle.mkbitmap.specs.Enlarged.{after_of, need}
-use Rattle.mkbitmap.proofs.Lifting.{need-is}
+use Rattle.mkbitmap.proofs.RaisedReliefs.{need-is}
 use Rattle.mkbitmap.proofs.Order.{after-rises, need-last, need-rises}
 use Rattle.run_output.specs.Names.{dash}
 use Rattle.run_output.specs.Told.{AllWent, Told}
@@ -23,10 +23,10 @@ use Rattle.mkbitmap_run.specs.Inner.FilterWork.{CanPut, GoesAlong, IsAtWork, IsB
 use Rattle.mkbitmap_run.specs.declared.fault.Break.{Break}
 use Rattle.mkbitmap_run.specs.declared.fault.Break.TheVariants as breaks
 use Rattle.mkbitmap_run.specs.declared.work.Work.{Work}
-use Rattle.mkbitmap_run.proofs.Cutting.{ended_with, opened_with, scan_is, text_above}
-use Rattle.mkbitmap_run.proofs.Drawing.{above_next}
-use Rattle.mkbitmap_run.proofs.Giving.{fewer_rows, gives_on}
-use Rattle.mkbitmap_run.proofs.Working.{along_none, along_on, same_after, same_header, same_need, same_rows}
+use Rattle.mkbitmap_run.proofs.CutDocuments.{ended_with, opened_with, scan_is, text_above}
+use Rattle.mkbitmap_run.proofs.ResultRows.{above_next}
+use Rattle.mkbitmap_run.proofs.GivenRows.{fewer_rows, gives_on}
+use Rattle.mkbitmap_run.proofs.PageWork.{along_none, along_on, same_after, same_header, same_need, same_rows}
 
 pub pos_of : (a b : ℕ) → 1 ≤ a → 1 ≤ b → 1 ≤ a * b
 pos_of a b one two = mul-le 1 1 a b one two

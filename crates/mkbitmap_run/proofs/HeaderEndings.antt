@@ -26,7 +26,7 @@ use Rattle.run_output.specs.Told.{Sinks, Source, Told}
 use Rattle.small_program.specs.Input.{HasTaken, TellsInput}
 use Rattle.small_program.specs.ProgramRun.{OnlySays}
 use Rattle.run_output.specs.declared.status.Status.TheVariants as status
-use Rattle.small_program.proofs.Taking.{is_not_missing, is_there, one_input}
+use Rattle.small_program.proofs.TakenInput.{is_not_missing, is_there, one_input}
 use Rattle.mkbitmap_words.specs.declared.setup.Setup.{Setup}
 use Rattle.mkbitmap_run.specs.Inner.Head.{StandsBehindHead, StopsHead}
 use Rattle.mkbitmap_run.specs.FilterRun.{IsPageRun, LeavesOpen, filter_name, page_says}
@@ -34,9 +34,9 @@ use Rattle.mkbitmap_run.specs.Inner.FilterRun.{cause_ending}
 use Rattle.mkbitmap_run.specs.Result.{result_text}
 use Rattle.mkbitmap_run.specs.Rows.{fits_result, head_ending, page_ending}
 use Rattle.mkbitmap_run.specs.Inner.FilterWork.{StaysOpened, StopsBehind, header_of}
-use Rattle.mkbitmap_run.proofs.Running.{RunsPage, not_unwritten, run_refused, run_unread, too_large}
-use Rattle.mkbitmap_run.proofs.Standing.{cut_stays, near_by, near_of}
-use Rattle.mkbitmap_run.proofs.Taking.{all_of_taken, taken_on}
+use Rattle.mkbitmap_run.proofs.PageEndings.{RunsPage, not_unwritten, run_refused, run_unread, too_large}
+use Rattle.mkbitmap_run.proofs.RowPrefixes.{cut_stays, near_by, near_of}
+use Rattle.mkbitmap_run.proofs.TakenBytes.{all_of_taken, taken_on}
 
 -- The header as this program reads it.
 

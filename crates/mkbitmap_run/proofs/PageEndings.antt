@@ -17,7 +17,7 @@ use Rattle.run_output.specs.Told.{BrokeOff, IsMessage, Sinks, Source}
 use Rattle.small_program.specs.ProgramRun.{Writes}
 use Rattle.run_output.specs.declared.status.Status.{Status}
 use Rattle.run_output.specs.declared.status.Status.TheVariants as status
-use Rattle.small_program.proofs.Taking.{is_not_missing, one_input}
+use Rattle.small_program.proofs.TakenInput.{is_not_missing, one_input}
 use Rattle.mkbitmap_words.specs.declared.setup.Setup.{Setup}
 use Rattle.mkbitmap_run.specs.Inner.Head.{StandsBehindHead}
 use Rattle.mkbitmap_run.specs.FilterRun.{IsPageRun, LeavesOpen, ReadsNearNext, ReadsNearRows, filter_name, page_says, rows_behind, IsCutAt}
@@ -26,10 +26,10 @@ use Rattle.mkbitmap_run.specs.Rows.{LeavesRows, ReachesNear, cut_row, fits_resul
 use Rattle.mkbitmap_run.specs.Inner.FilterWork.{BeginsWork, GivesRows, HasReadHead, StaysOpened, StopsBehind, header_of, setup_of}
 use Rattle.mkbitmap_run.specs.declared.work.Work.{Work}
 use Rattle.bitmap_input.specs.declared.gray_reader.GrayHead.{GrayHead}
-use Rattle.mkbitmap_run.proofs.Cutting.{cut_few, cut_of_more}
-use Rattle.mkbitmap_run.proofs.Giving.{header_stays}
-use Rattle.mkbitmap_run.proofs.Standing.{cut_stays, leaves_weaken, near_of, none_settled, settled_is, standing_is}
-use Rattle.mkbitmap_run.proofs.Taking.{all_of_taken, taken_on}
+use Rattle.mkbitmap_run.proofs.CutDocuments.{cut_few, cut_of_more}
+use Rattle.mkbitmap_run.proofs.GivenRows.{header_stays}
+use Rattle.mkbitmap_run.proofs.RowPrefixes.{cut_stays, leaves_weaken, near_of, none_settled, settled_is, standing_is}
+use Rattle.mkbitmap_run.proofs.TakenBytes.{all_of_taken, taken_on}
 
 -- How the bytes say that a run ends.
 

@@ -12,7 +12,7 @@ use Rattle.mkbitmap.specs.Filtering.{Filtering, HasGone, SameSetup}
 use Rattle.mkbitmap.specs.Follows.{HoldsRows, AreRaised}
 use Rattle.mkbitmap.specs.Inner.Layout.{HasRoom, IsLaidOut, filtering_of, first_held, held_row}
 use Rattle.mkbitmap.specs.declared.filter.Filter.TheInside.{Inside}
-use Rattle.mkbitmap.proofs.Adding.{sum-first, sum-grown, sum-most, sum-same}
+use Rattle.mkbitmap.proofs.BoxSums.{sum-first, sum-grown, sum-most, sum-same}
 
 -- two rows of which fewer than n stand between don't share a slot
 apart : (n j t : ℕ) → 1 ≤ n → j < t → t < j + n → j % n ≡ t % n → ⊥

@@ -8,7 +8,7 @@ use Rattle.small_program.specs.ProgramRun.{HasDone, IsProgramRun, Writes}
 use Rattle.small_program.specs.Reply.{IsReply}
 use Rattle.run_output.specs.declared.status.Status.{Status}
 use Rattle.run_output.specs.declared.status.Status.TheVariants as status
-use Rattle.small_program.proofs.Taking.{one_input}
+use Rattle.small_program.proofs.TakenInput.{one_input}
 use Rattle.outline_check_run.specs.Inner.OneReply.{one_line}
 use Rattle.outline_check_run.specs.Rechecked.{FindsRight}
 use Rattle.outline_check_run.specs.Verdict.{IsCheckReply, verdict_line}

@@ -11,7 +11,7 @@ use Rattle.mkbitmap.specs.Filtering.{Filtering, HasGone, SameSetup}
 use Rattle.mkbitmap.specs.Follows.{Follows, IsRow}
 use Rattle.bit_image.specs.PbmText.{row_text}
 use Rattle.mkbitmap.specs.Packing.{padded}
-use Rattle.mkbitmap.proofs.Lifting.{need-is}
+use Rattle.mkbitmap.proofs.RaisedReliefs.{need-is}
 use Rattle.run_output.specs.Told.{Source}
 use Rattle.mkbitmap_words.specs.declared.setup.Setup.{Setup}
 use Rattle.mkbitmap_words.specs.Inner.FilterAsked.{CanFilter}
@@ -19,7 +19,7 @@ use Rattle.mkbitmap_run.specs.FilterRun.{need_of, HasFirstRows}
 use Rattle.mkbitmap_run.specs.Result.{result_row}
 use Rattle.mkbitmap_run.specs.Inner.FilterWork.{CanPut, FitsWork, GetsReady, GoesAlong, IsAtWork, IsGrayHead, MayRead, header_of, setup_of}
 use Rattle.mkbitmap_run.specs.declared.work.Work.{Work}
-use Rattle.mkbitmap_run.proofs.Giving.{fewer_rows, gives_none, gives_on, gives_one, header_stays, lowered_row}
+use Rattle.mkbitmap_run.proofs.GivenRows.{fewer_rows, gives_none, gives_on, gives_one, header_stays, lowered_row}
 
 -- Tests of numbers.
 
