@@ -1,4 +1,4 @@
--- Base names of documents, counted.
+-- How many documents have a base name, counted file by file.
 use Rattle.std.proofs.Common.{◌≡◌, ◌≤◌, ℕ, zero, suc, ◌+◌, Bool, true, false, cond, List, [], ◌∷◌, ◌++◌, length, take, refl, sym, ◌∙◌, ap, append_assoc, append-nil, arith}
 use Rattle.std.specs.Prelude.{replicate, string_bytes}
 use Rattle.std.specs.List.{sum_by}
@@ -28,7 +28,7 @@ as_one t = cond t 1 0
 abbrev as_many : ℕ → Bool → ℕ
 as_many n t = cond t n 0
 
--- one document more with this base name
+-- one more document of this base name adds 1 to its count
 count_of-same : (base : List ℕ) (made : List (List ℕ)) → count_of base (base ∷ made) ≡ 1 + count_of base made
 count_of-same base made =
     let same : bytes_eq base base ≡ true = (bytes_eq-Decides base base).1 refl in
@@ -39,7 +39,7 @@ count_of-made_with base zero made = omega arith
 count_of-made_with base (suc n) made =
     let more = count_of-made_with base n made in let one = count_of-same base (made_with base n made) in omega (arith, more, one)
 
--- the name of the next document, where n were made of the file and some before it
+-- the name of the next document, after n documents of its file and others of earlier files
 pub next_name-made_with : (base : List ℕ) (first n : ℕ) (made : List (List ℕ)) → first ≡ count_of base made
     → next_name base (made_with base n made) ≡ document_name base (first + n + 1)
 next_name-made_with base first n made is =
@@ -62,7 +62,7 @@ documents_by false base name (suc n) is =
 pub documents_same : (base name : List ℕ) (n : ℕ) → name ≡ base → n ≡ count_of base (replicate n name)
 documents_same base name n is = sym (documents_by true base name n ((bytes_eq-Decides name base).1 is))
 
--- all files together
+-- the counts of all files add up to the count of all documents
 pub documents_all : (base : List ℕ) (files : List FileMade) → sum_by (documents_of base) files ≡ count_of base (made_by files)
 documents_all base [] = refl
 documents_all base (file ∷ files) =
@@ -71,7 +71,7 @@ documents_all base (file ∷ files) =
     let both = sum_by-append (λ x. cond (bytes_eq x base) 1 0) (made_by files) (replicate file.documents (string_bytes file.base)) in
     omega (arith, rest, one, both)
 
--- the documents of the first files are at most all
+-- the first i files have no more documents than all files
 pub documents_most : (base : List ℕ) (files : List FileMade) (i : ℕ) → sum_by (documents_of base) (take i files) ≤ length (made_by files)
 documents_most base files i =
     let some = sum_by-take-le (documents_of base) files i in
@@ -79,7 +79,7 @@ documents_most base files i =
     let most = count_by-le-length (λ name. bytes_eq name base) (made_by files) in
     omega (arith, some, all, most)
 
--- the documents of one file more
+-- one more file adds its documents to the base names
 pub made_by_push : (files : List FileMade) (file : FileMade) → made_by (files ++ file ∷ []) ≡ made_with (string_bytes file.base) file.documents (made_by files)
 made_by_push [] file = sym (append-nil (replicate file.documents (string_bytes file.base))) ∙ replicate-append (string_bytes file.base) file.documents []
 made_by_push (f ∷ files) file =
@@ -88,7 +88,7 @@ made_by_push (f ∷ files) file =
     ∙ append_assoc (replicate file.documents (string_bytes file.base)) (made_by files) more
     ∙ replicate-append (string_bytes file.base) file.documents (made_by files ++ more)
 
--- the same documents, and as many pages
+-- two runs made the same if their documents and their numbers of pages agree
 pub same_past : (past other : Past) → past.made ≡ other.made → past.pages ≡ other.pages → past ≡ other
 same_past past other made pages =
     ap (λ (m : List (List ℕ)). at m past.pages) made ∙ ap (λ (n : ℕ). at other.made n) pages where

@@ -1,4 +1,4 @@
--- Pieces that are written one after another.
+-- What a run of pieces is after one more piece was written, whole or in part.
 use Rattle.std.proofs.Common.{◌≡◌, ◌≤◌, ◌<◌, ℕ, ◌+◌, List, [], ◌∷◌, ◌++◌, length, map, take, drop, get_or, Option, sym, ◌∙◌, ap, append_assoc, add-one, length-append, arith}
 use Rattle.std.specs.List.{concat}
 use Rattle.std.proofs.Math.Seq.{take-append-add, take-suc}
@@ -7,7 +7,7 @@ use Rattle.std.proofs.lemmas.List.{take-append-drop, map-append, append-nil, tak
 use Rattle.pt_core.specs.Documents.{Documents, with_bytes}
 use Rattle.pt_base.proofs.Writing.{with_bytes-with_bytes}
 
--- the first pieces and the next one
+-- the first i + 1 pieces are the first i and the next one
 pub concat-step : (A : Type 0) (f : A → List ℕ) (xs : List A) (i : ℕ) (d : A) → i < length xs
     → concat (map f (take (i + 1) xs)) ≡ concat (map f (take i xs)) ++ f (get_or xs i d)
 concat-step A f xs i d within =
@@ -15,7 +15,7 @@ concat-step A f xs i d within =
     (ap concat (map-append f (take i xs) (get_or xs i d ∷ [])) ∙ concat-append (map f (take i xs)) (f (get_or xs i d) ∷ [])
     ∙ ap (λ r. concat (map f (take i xs)) ++ r) (append-nil (f (get_or xs i d))))
 
--- all pieces begin with the first ones
+-- all pieces are the first i and the rest
 concat-begins : (A : Type 0) (f : A → List ℕ) (xs : List A) (i : ℕ)
     → concat (map f xs) ≡ concat (map f (take i xs)) ++ concat (map f (drop i xs))
 concat-begins A f xs i =
@@ -29,7 +29,7 @@ piece_said A f old mid new xs i d within e h =
     h ∙ ap (λ t. with_bytes t (f (get_or xs i d))) e ∙ with_bytes-with_bytes old _ _
     ∙ ap (with_bytes old) (sym (concat-step A f xs i d within))
 
--- a front of a piece is said, and the rest is given up
+-- if a prefix of a piece was written and the rest was dropped, a prefix of all bytes was written
 pub piece_cut : (A : Type 0) (f : A → List ℕ) (old mid new : Option Documents) (xs : List A) (i : ℕ) (d : A) → i < length xs
     → mid ≡ with_bytes old (concat (map f (take i xs)))
     → ((n : ℕ) × (n ≤ length (f (get_or xs i d))) × (new ≡ with_bytes mid (take n (f (get_or xs i d)))))

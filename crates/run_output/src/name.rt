@@ -1,4 +1,4 @@
-//! The name of a file or of a document, and names in order.
+//! The name of a file or of a document, and lists of names.
 ghost use Rattle.std.specs.Prelude.{◌≡◌, ◌++◌, ◌∷◌, [], IfOk, OnOk, OnErr};
 
 use std::alloc::{AllocError, Global};
@@ -33,7 +33,7 @@ impl Name {
     }
 }
 
-/// Names in order. Contracts see the list of their bytes.
+/// A list of names. Contracts see their bytes, in order.
 #[derive(Debug, Drop)]
 pub struct Names {
     items: Vec<Name>,
@@ -56,7 +56,7 @@ impl Names {
         }
     }
 
-    /// Adds a name at the end.
+    /// Appends a name. After an error the list is as it was.
     pub fn push(&mut self, name: Name) -> Result<(), AllocError>
         ensures added { OnOk result (self.new ≡ self.old ++ name ∷ []) }
         ensures kept { OnErr result (self.new ≡ self.old) }

@@ -1,4 +1,5 @@
--- How a run ends.
+-- The two ways in which a run ends meet the definition of a whole run: with an input that couldn't be read, and with a
+-- reply.
 use Rattle.std.proofs.Common.{◌≡◌, ℕ, ◌+◌, ◌<◌, ◌≤◌, ◌⊎◌, inl, inr, List, length, refl, sym, ◌∙◌, ap, subst, arith, codes}
 use Rattle.pt_core.specs.Counts.{Rose, next_count}
 use Rattle.pt_core.specs.Files.{Lacks}
@@ -16,7 +17,7 @@ use Rattle.small_program.specs.declared.input.InputStop.TheVariants as stops
 use Rattle.small_program.specs.declared.input.TheConstants.{MOST_BYTES}
 use Rattle.small_program.proofs.TakenInput.{is_not_missing, is_there, one_input}
 
--- what is known where standard input isn't there whole
+-- what is known if standard input couldn't be read to its end
 pub record IsInputStopped (stop : InputStop) (source source_now : Source) : Type 0 where
   pub opened : source_now.openings ≡ next_count source.openings
   pub too_long : stop ≡ stops.TooLong → (bytes : List ℕ) × HasInput source.files bytes × (MOST_BYTES < length bytes)
@@ -25,16 +26,16 @@ pub record IsInputStopped (stop : InputStop) (source source_now : Source) : Type
   pub missing : Lacks source.files dash → stop ≡ stops.Unread
   pub steady : (stop ≡ stops.Unread) ⊎ (source_now.faults ≡ source.faults)
 
--- the outputs weren't called, so their count didn't rise
+-- the outputs weren't called, so their count of faults didn't rise
 same_faults : (old new : Sinks) → new.outs ≡ old.outs → old.outs.faults < new.outs.faults → ⊥
 same_faults old new same less = let e : new.outs.faults ≡ old.outs.faults = ap (λ (t : Told). t.faults) same in omega arith
 
--- a longer input than a program takes is refused, whatever its task makes of it
+-- an input longer than a program takes is refused, whatever the task makes of it
 long_is_refused : (makes : List ℕ → Status → List ℕ → Type 0) (bytes text : List ℕ) (well : Status) → MOST_BYTES < length bytes → IsReply makes bytes well text → status.Refused ≡ well
 long_is_refused makes bytes text well long (inl (few, made)) = absurd (omega arith)
 long_is_refused makes bytes text well long (inr (most, is, why)) = sym is
 
--- the run ends where standard input does
+-- a run is as defined if its input couldn't be read
 pub run_stopped : (makes : List ℕ → Status → List ℕ → Type 0) (program : List ℕ) (words : ℕ) (stop : InputStop) (source source_now : Source) (old new : Sinks)
     → words ≡ 0 → IsInputStopped stop source source_now → OnlySays (stop_line program stop) old new
     → IsProgramRun makes program words (stop_ending stop) source source_now old new
@@ -80,14 +81,14 @@ run_stopped makes program words stops.OutOfMemory source source_now old new none
     still (inl never) = absurd (let e : stops.OutOfMemory ≡ stops.Unread = never in cc)
     still (inr same) = same
 
--- what is known where standard input is there whole, and has a reply
+-- what is known if standard input was read to its end and has a reply
 pub record IsReplied (makes : List ℕ → Status → List ℕ → Type 0) (bytes : List ℕ) (well : Status) (text : List ℕ) (source source_now : Source) : Type 0 where
   pub takes : TakesInput bytes source source_now
   pub few : length bytes ≤ MOST_BYTES
   pub made : makes bytes well text
   pub one : (text' : List ℕ) (other : Status) → makes bytes other text' → well ≡ other
 
--- it is the reply
+-- there is only one reply to an input
 one_reply : (makes : List ℕ → Status → List ℕ → Type 0) (bytes text : List ℕ) (well : Status) (source source_now : Source) → IsReplied makes bytes well text source source_now
     → (others more : List ℕ) (other : Status) → TellsInput source.files others → IsReply makes others other more → well ≡ other
 one_reply makes bytes text well source source_now replied others more other tells (inl (few, made)) =
@@ -95,7 +96,7 @@ one_reply makes bytes text well source source_now replied others more other tell
 one_reply makes bytes text well source source_now replied others more other tells (inr (long, is, why)) =
     absurd (let same : others ≡ bytes = one_input source.files bytes others replied.takes.has tells in let e : length others ≡ length bytes = ap length same in omega (arith, replied.few))
 
--- its document was written
+-- a run is as defined if the document of its reply was written
 outcome_written : (makes : List ℕ → Status → List ℕ → Type 0) (program bytes text : List ℕ) (well : Status) (source source_now : Source) (old new : Sinks)
     → (well ≡ status.Done) ⊎ (well ≡ status.Wrong) → IsReplied makes bytes well text source source_now → Writes text old new → HasDone makes program well source source_now old new
 outcome_written makes program bytes text well source source_now old new (inl done) replied writes =
@@ -105,12 +106,12 @@ outcome_written makes program bytes text well source source_now old new (inr wro
     subst (λ (e : Status). HasDone makes program e source source_now old new) (sym wrong)
     (bytes, text, replied.takes, inl (replied.few, subst (λ (e : Status). makes bytes e text) wrong replied.made), writes)
 
--- words were none, where it ends so
+-- a run that ends well doesn't end with bad arguments
 not_bad : (well : Status) → (well ≡ status.Done) ⊎ (well ≡ status.Wrong) → well ≡ status.BadWords → ⊥
 not_bad well (inl done) bad = absurd (let never : status.Done ≡ status.BadWords = sym done ∙ bad in cc)
 not_bad well (inr wrong) bad = absurd (let never : status.Wrong ≡ status.BadWords = sym wrong ∙ bad in cc)
 
--- the run ends with the reply
+-- a run is as defined if there is a reply, whether its document was written, cut off or refused
 pub run_replied : (makes : List ℕ → Status → List ℕ → Type 0) (program : List ℕ) (words : ℕ) (bytes text : List ℕ) (well end : Status) (source source_now : Source) (old new : Sinks)
     → words ≡ 0 → IsReplied makes bytes well text source source_now → PutsReply program well text end old new
     → IsProgramRun makes program words end source source_now old new

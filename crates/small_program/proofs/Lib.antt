@@ -1,2 +1,3 @@
+-- Lemmas about the runs of small programs and their input.
 pub mod TakenInput
 pub mod Endings

@@ -1,16 +1,16 @@
--- What standard input holds, by what was taken of it.
+-- What follows for standard input from the bytes that were read of it.
 use Rattle.std.proofs.Common.{◌≡◌, ℕ, ◌≤◌, List, [], ◌++◌, length, Option, None, Some, refl, sym, ◌∙◌, ap, option_map, arith, length-append}
 use Rattle.std.specs.FinMap.{get}
 use Rattle.pt_core.specs.Files.{Files, Lacks, with_file}
 use Rattle.run_output.specs.Names.{dash}
 use Rattle.small_program.specs.Input.{HasInput, HasTaken, TellsInput}
 
--- it has what was taken, and perhaps more
+-- standard input has the bytes that were read, and perhaps more
 pub input_of_taken : (start now : Option Files) (taken : List ℕ) → HasTaken start now taken → (bytes : List ℕ) × HasInput start bytes × (length taken ≤ length bytes)
 input_of_taken None now taken has = (taken, tt, omega arith)
 input_of_taken (Some files) now taken (rest, is, same) = (taken ++ rest, is, omega (arith, length-append taken rest))
 
--- nothing was taken of it just after it was opened
+-- nothing was read of standard input just after it was opened
 pub nothing_taken : (files now : Option Files) → now ≡ with_file files dash → (Lacks files dash → ⊥) → HasTaken files now []
 nothing_taken None now opened there = opened
 nothing_taken (Some files) now opened there = held (get files.contents dash) refl
@@ -20,12 +20,12 @@ nothing_taken (Some files) now opened there = held (get files.contents dash) ref
     held (Some bytes) is =
         (bytes, is, opened ∙ ap (λ o. Some (record { contents = files.contents; opened = option_map (λ (b : List ℕ). record { name = dash; rest = b }) o })) is)
 
--- where it is told, it has these bytes alone
+-- if contracts know standard input, it has only one content
 pub one_input : (files : Option Files) (a b : List ℕ) → HasInput files a → TellsInput files b → b ≡ a
 one_input None a b has tells = absurd tells
 one_input (Some files) a b has tells = let same : Some b ≡ Some a = sym tells ∙ has in cc
 
--- where it has bytes, it is there
+-- standard input isn't missing if it has bytes
 pub is_there : (files : Option Files) (bytes : List ℕ) → TellsInput files bytes → Lacks files dash → ⊥
 is_there None bytes tells lacks = tells
 is_there (Some files) bytes tells lacks = absurd (let never : Some bytes ≡ None = sym tells ∙ lacks in cc)
