@@ -1,23 +1,23 @@
--- A run's piece and penalty, which are given where it may be joined.
+-- A run's piece and penalty, as the code returns them if the run may be joined.
 use Rattle.std.proofs.Common.{◌≡◌, ◌≤◌, ℕ, List, Option, None, Some, IfSome, IfNone, ap, ◌∙◌}
 use Rattle.pt_core.specs.declared.piece.Piece.{Piece}
 use Rattle.curve_join.specs.Inner.Conditions.{IsGivenIf}
 use Rattle.curve_join.specs.Join.{MayJoin, joined_piece, penalty_at}
 use Rattle.curve_join.specs.declared.bend.Bend.{Bend}
 
--- both parts of a pair
+-- two pairs are equal if both parts are
 pub both_are : {A : Type 0} {B : Type 0} {a a' : A} {b b' : B} → a ≡ a' → b ≡ b' → ◌≡◌ {A = A × B} (a, b) (a', b')
 both_are {A = A} {B = B} {a' = a'} {b = b} e f =
     let left : A → A × B = λ x. (x, b) in
     let right : B → A × B = λ y. (a', y) in
     ap left e ∙ ap right f
 
--- what is given of a run
+-- the answer for a run: its piece and penalty if it may be joined, else none
 abbrev pub IsJoinGiven : ℕ → List Bend → Option (Piece × ℕ) → Type 0
 IsJoinGiven tol run found = IsGivenIf {A = Piece × ℕ} (MayJoin tol run) (joined_piece run, penalty_at run) found
 
 module _ (tol : ℕ) (run : List Bend) where
-  -- a limit that no penalty is above refuses nothing
+  -- a limit rules nothing out if no penalty is above it
   pub unlimited : (limit : ℕ) (found : Option (Piece × ℕ)) → (MayJoin tol run → penalty_at run ≤ limit)
       → IsGivenIf {A = Piece × ℕ} (MayJoin tol run × (penalty_at run ≤ limit)) (joined_piece run, penalty_at run) found → IsJoinGiven tol run found
   unlimited limit (Some answer) few is = record { holds = is.holds.0; is = is.is }

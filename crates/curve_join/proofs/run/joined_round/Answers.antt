@@ -8,7 +8,7 @@ use Rattle.curve_join.proofs.RunPenalties.{both_are}
 use Rattle.curve_join.proofs.JoinedRuns.{joined_is, may_join, not_curved, penalty_there, pieces_within, sides_within}
 use Rattle.curve_join.proofs.run.joined_round.Goals as goal
 
--- the curve is the run's, and the run may be joined at this penalty
+-- the curve is the run's, and the run may be joined with this penalty
 module _ (c : goal.After-piece) where
   may : MayJoin c.args.tol c.args.run.now.bends.now
   may =

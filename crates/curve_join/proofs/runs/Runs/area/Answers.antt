@@ -9,7 +9,7 @@ use Rattle.curve_join.specs.Join.{no_bend}
 use Rattle.curve_join.specs.Vector.{vector_cross, way_of}
 use Rattle.curve_join.proofs.runs.Runs.area.Goals as goal
 
--- what is looked up, and ten times the triangle of the origin and the chord
+-- two prefix sums, and ten times the triangle of the origin and the chord
 module _ (c : goal.After-times) where
   upper_is : c.index-3.result.now ≡ area_up_to c.args.self.now.bends.items c.args.to
   upper_is = area_read c.args.self.now.bends.items c.args.self.now.areas.items c.args.self.now.summed c.args.to c.requires.within c.index-3.result.now c.index-3.ensures
