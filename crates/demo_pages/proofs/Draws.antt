@@ -1,4 +1,4 @@
--- States of the generator, and the pages that are made from them.
+-- The state of the generator after several draws, and the pages that are made from it.
 use Rattle.std.proofs.Common.{◌≡◌, ℕ, zero, suc, ◌+◌, ◌*◌, Bool, List, [], ◌∷◌, ◌++◌, refl, sym, ap, ◌∙◌, arith, add-one, append_assoc}
 use Rattle.std.proofs.Math.Path.{fun_ext}
 use Rattle.bit_image.specs.Image.{Image, IsWhite, differ, white}
@@ -10,7 +10,7 @@ use Rattle.demo_pages.specs.declared.rectangle.Rectangle.{Rectangle}
 use Rattle.demo_pages.specs.Generator.{next_state, state_after}
 use Rattle.demo_pages.specs.Picture.{bar_at, demo_image, is_in_bar, is_in_rectangle, pages_from, picture_page, rectangle_at, with_bars, with_rectangles}
 
--- a draw more
+-- the state after one more draw
 pub one_draw : (n s t w : ℕ) → t ≡ state_after n s → w ≡ next_state t → w ≡ state_after (suc n) s
 unfolding state_after
 one_draw n s t w p q = q ∙ ap next_state p
@@ -19,7 +19,7 @@ pub no_draw : (s : ℕ) → s ≡ state_after 0 s
 unfolding state_after
 no_draw s = refl
 
--- some draws behind others
+-- m draws after n draws are m + n draws
 pub state_after-state_after : (m n s : ℕ) → state_after m (state_after n s) ≡ state_after (m + n) s
 unfolding state_after
 state_after-state_after zero n s = let same : n ≡ 0 + n = omega arith in ap (λ (k : ℕ). state_after k s) same
@@ -27,20 +27,20 @@ state_after-state_after (suc m) n s =
     let same : suc (m + n) ≡ suc m + n = omega arith in
     ap next_state (state_after-state_after m n s) ∙ ap (λ (k : ℕ). state_after k s) same
 
--- as many draws again
+-- m more draws after m * n draws
 pub as_many_more : (m n s t w : ℕ) → t ≡ state_after (m * n) s → w ≡ state_after m t → w ≡ state_after (m * (n + 1)) s
 as_many_more m n s t w p q =
     let count : m + m * n ≡ m * (n + 1) = omega arith in
     q ∙ ap (state_after m) p ∙ state_after-state_after m (m * n) s ∙ ap (λ (k : ℕ). state_after k s) count
 
--- a rectangle more
+-- the image after one more rectangle
 pub one_rectangle : (n s t : ℕ) (b : Image) (x : Bool) (r : Rectangle) (u v : ℕ) → t ≡ state_after (4 * n) s → r ≡ rectangle_at t
     → x ≡ with_rectangles n s b u v → differ x (is_in_rectangle r u v) ≡ with_rectangles (n + 1) s b u v
 unfolding with_rectangles
 one_rectangle n s t b x r u v at is so_far =
     rw (add-one, so_far, is, at) refl
 
--- a bar more
+-- the image after one more bar
 pub one_bar : (n s t : ℕ) (b : Image) (x : Bool) (bar : Bar) (u v : ℕ) → t ≡ state_after (3 * n) s → bar ≡ bar_at t
     → x ≡ with_bars n s b u v → differ x (is_in_bar bar u v) ≡ with_bars (n + 1) s b u v
 unfolding with_bars
@@ -55,7 +55,7 @@ pub no_bar : (s : ℕ) (b : Image) (u v : ℕ) → b u v ≡ with_bars 0 s b u v
 unfolding with_bars
 no_bar s b u v = refl
 
--- a page that begins white shows its picture in the end
+-- a white page becomes the defined page after all rectangles and bars
 pub is_picture : (s t : ℕ) (first middle page : Page) → IsPage page → page.width ≡ WIDTH → page.height ≡ HEIGHT → IsWhite (image_of first)
     → t ≡ state_after (4 * RECTANGLES) s
     → ((u v : ℕ) → image_of middle u v ≡ with_rectangles RECTANGLES s (image_of first) u v)
@@ -77,7 +77,7 @@ is_picture s t first middle page is_page wide high is_white at rectangles bars =
 pub is_page : (s : ℕ) → IsPage (picture_page s)
 is_page s = IsPage-page_of WIDTH HEIGHT (demo_image s) (omega arith) (omega arith) (omega arith) (omega arith)
 
--- a page more
+-- the list after one more page
 pub one_page : (whole made : List Page) (n left s t : ℕ) (page : Page) → n ≡ suc left → page ≡ picture_page s
     → t ≡ state_after (4 * RECTANGLES + 3 * BARS) s
     → whole ≡ made ++ pages_from n s → whole ≡ (made ++ page ∷ []) ++ pages_from left t

@@ -1,4 +1,4 @@
--- What status 0 says of the text.
+-- If the exit status is 0, each polygon of the text is the best one for its path.
 use Rattle.std.proofs.Common.{◌≡◌, ℕ, List, inl, inr, sym, subst, arith}
 use Rattle.std.specs.List.{All}
 use Rattle.outline_check.specs.ProofsText.{Certified}

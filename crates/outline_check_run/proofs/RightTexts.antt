@@ -1,4 +1,4 @@
--- A text of right certificates is found right.
+-- A run finds a text of right certificates right.
 use Rattle.std.proofs.Common.{◌≡◌, ℕ, ◌≤◌, ◌^◌, List, length, inl, inr, refl, sym, subst, codes, arith}
 use Rattle.outline_check.specs.Verdicts.{IsVerdict}
 use Rattle.outline_check.specs.declared.verdict.Verdict.TheVariants.{Right}
@@ -14,15 +14,15 @@ use Rattle.outline_check_run.specs.Rechecked.{FindsRight}
 use Rattle.outline_check_run.specs.Verdict.{IsCheckReply, verdict_line}
 
 module _ (program text : List ℕ) (paths : ℕ) where
-  -- what is said of it
+  -- the line that the run writes
   abbrev line : List ℕ
   line = verdict_line (codes "right ") paths
 
-  -- it is the reply
+  -- this line is a reply to the text
   right_reply : IsVerdict text (Right paths) → length text ≤ 2 ^ 30 → IsReply IsCheckReply text status.Done line
   right_reply right few = inl (omega (arith, few), (paths, right, refl))
 
-  -- and the only one
+  -- there is no other reply
   reply_is : (said : List ℕ) → IsVerdict text (Right paths) → length text ≤ 2 ^ 30 → IsReply IsCheckReply text status.Done said → said ≡ line
   reply_is said right few (inl (short, made)) = one_line text said line status.Done status.Done made (paths, right, refl)
   reply_is said right few (inr (long, is, why)) = absurd (omega (arith, few, long))

@@ -1,3 +1,4 @@
+-- Lemmas about points texts, marks and sweeps.
 pub mod UniqueReading
 pub mod Traced
 pub mod LoopPoints

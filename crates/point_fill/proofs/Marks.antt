@@ -1,4 +1,4 @@
--- A mark inverts what the sweep gives from it on.
+-- A mark inverts the swept pixels from its column to the right end of its row.
 use Rattle.std.proofs.Common.{◌≡◌, ℕ, zero, suc, ◌+◌, ◌<◌, ◌≤◌, ◌⊎◌, Bool, false, cond, ◌&&◌, nat_eq, nat_abs, min, ℤ, pos, ◌≤ℤ◌, Option, Some, None, refl, ap, sym, ◌∙◌, subst, inl, inr, arith}
 use Rattle.std.specs.Prelude.{nat_lt}
 use Rattle.std.proofs.lemmas.Bool.{cases_lt, eq-eqb, ne_eqb}
@@ -25,7 +25,7 @@ odd_below-same f g zero h = refl
 odd_below-same f g (suc n) h =
     ap (λ t. differ t (f n)) (odd_below-same f g n (λ k below. h k (omega arith))) ∙ ap (differ (odd_below g n)) (h n (omega arith))
 
--- of one column there is one from it on
+-- a mark in one column counts once from that column on
 one_column : (x y v n : ℕ) → odd_below (λ k. is_between x (x + 1) y k v) n ≡ (nat_lt x n && nat_eq y v)
 one_column x y v zero = sym (nothing x y v)
   where
@@ -98,7 +98,7 @@ step_on w h p q cp cq step =
       | inr across ↦ inr (ap nat_abs across.0, next_size p.y q.y cp.from_bottom cq.from_bottom across.1)
     ])
 
--- an upright line of a step lies in a row of the page
+-- the vertical line of a step lies in a row of the page
 pub row_within : (w h : ℕ) (p q : Point) (x y : ℕ) → IsCornerOf w h p → IsCornerOf w h q → IsUnitStep p q → place_of (line_between p q) ≡ Some (x, y) → y < h
 row_within w h p q x y cp cq step e = (subst (IsLineOn w h) (upright_is (line_between p q) x y e) (step_on w h p q cp cq step)).1
 
@@ -109,7 +109,7 @@ marked_line old new p q x y e marked u v left =
 pub marked_level : (page : Page) (p q : Point) → place_of (line_between p q) ≡ None → AreMarked page page (λ u v. is_crossed u v (line_between p q))
 marked_level page p q e = marked_none page (λ u v. is_crossed u v (line_between p q)) (λ u v left. level_uncrossed (line_between p q) u v e)
 
--- corners of a page are those of any larger one
+-- a corner of a page is a corner of each larger page
 pub wider : (w h : ℕ) (p : Point) → w ≤ LONGEST_SIDE → h ≤ LONGEST_SIDE → IsCornerOf w h p → IsCornerOf LONGEST_SIDE LONGEST_SIDE p
 wider w h p hw hh c = record {
   from_left = c.from_left;

@@ -1,1 +1,2 @@
+-- Why the program makes the same page again.
 pub mod RoundTrip

@@ -1,4 +1,4 @@
--- A page comes back from the points text of its paths.
+-- Filling the points text of a page's paths makes the same page again.
 use Rattle.std.proofs.Common.{◌≡◌, ℕ, ◌^◌, ◌≤◌, List, length, inl, inr, refl, sym, subst, arith}
 use Rattle.bit_image.specs.Page.{Page}
 use Rattle.bit_image.specs.PbmText.{pbm_text}
@@ -18,7 +18,7 @@ use Rattle.point_fill_run.specs.Round.{GivesBack}
 page_reply : (text : List ℕ) (page : Page) → IsFilled text page → IsFillReply text status.Done (pbm_text page)
 page_reply text page filled = inl (refl, (page, filled, refl))
 
--- it is the only one
+-- there is no other reply
 reply_is : (text reply : List ℕ) (page : Page) → length text ≤ 2 ^ 30 → IsFilled text page → IsReply IsFillReply text status.Done reply → reply ≡ pbm_text page
 reply_is text reply page few filled (inl (short, made)) = one_fill_text text reply (pbm_text page) status.Done status.Done made (page_reply text page filled)
 reply_is text reply page few filled (inr (long, is, why)) = absurd (omega arith)

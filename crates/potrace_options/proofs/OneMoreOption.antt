@@ -1,4 +1,4 @@
--- A command with one more option.
+-- A command with one more option has one more rule at the end of its list.
 use Rattle.std.proofs.Common.{◌≡◌, ◌∙◌, ◌<◌, ◌+◌, ◌++◌, ◌∷◌, ℕ, List, [], ap, length, map, refl, sym, take, get_or}
 use Rattle.std.proofs.lemmas.List.{map-append, take_more}
 use Rattle.clap.specs.Walk.{Rule}
@@ -11,7 +11,7 @@ with_rules-last : (app : App) (rules : List Rule) (rule : Rule) → with_rules a
 with_rules-last app [] rule = refl
 with_rules-last app (first ∷ rules) rule = with_rules-last (with_rule app first) rules rule
 
--- a command with the rules of the rows so far, and with that of the next row
+-- the command with the first i rules, and with the rule of the next row
 pub with_next_row : (app before after : App) (rows : List OptionRow) (i : ℕ) (row : OptionRow) → i < length rows
     → before ≡ with_rules app (map rule_of_row (take i rows)) → after ≡ with_rule before (rule_of_row (get_or rows i row))
     → after ≡ with_rules app (map rule_of_row (take (i + 1) rows))

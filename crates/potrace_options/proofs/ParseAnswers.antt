@@ -1,4 +1,4 @@
--- What `clap` answers is what the definitions say.
+-- The answers of `clap` are the ones that the definitions give.
 use Rattle.std.proofs.Common.{◌≡◌, ◌≢◌, ◌∙◌, ◌⊎◌, ℕ, Bool, true, false, List, [], refl, sym, ap, subst, inl, inr, true≢false}
 use Rattle.clap.specs.Walk.{Row}
 use Rattle.clap.specs.Simple.{App, is_simple, matches_of}
@@ -12,11 +12,11 @@ use Rattle.potrace_options.specs.Parsed.{parsed, parsed_by, parsed_by_fault}
 use Rattle.potrace_options.specs.declared.parsed.Parsed.TheVariants.{Help, Refused, Gives}
 use Rattle.potrace_options.proofs.OneFault.{IsFew, among_few, few_faults}
 
--- `clap` says of the command which faults it finds
+-- `clap`'s contract says which errors it finds for this command
 pub is_simple_command : is_simple_and_free command ≡ true
 is_simple_command = refl
 
--- and what it finds in the words
+-- `clap`'s contract says which values it finds for this command
 pub is_simple_one : is_simple command ≡ true
 is_simple_one = refl
 
@@ -53,7 +53,7 @@ pub refuses : (words : List (List ℕ)) (k : ErrorKind) → IsAmong k (faults_of
 refuses words k among other =
     refusal k other ∙ ap (λ (ks : Kinds). parsed_by ks (given_of (rows_of_words words))) (sym (among_few k (faults_of_words words) among (few_in_words words)))
 
--- The same of a command that is known to be the program's.
+-- These facts for a command that is known to be the program's.
 
 pub gives_by : (a : App) (words : List (List ℕ)) (rows : List Row) (g : Given) → a ≡ command → (is_simple_and_free a ≡ true → fault_of a words ≡ [])
     → (is_simple a ≡ true → rows ≡ matches_of a words) → g ≡ given_of rows → Gives g ≡ parsed words

@@ -1,4 +1,4 @@
--- A text has one reply.
+-- A text has only one reply.
 use Rattle.std.proofs.Common.{◌≡◌, ℕ, List, inl, inr, sym, ◌∙◌, ap}
 use Rattle.bit_image.specs.Page.{Page}
 use Rattle.bit_image.specs.PbmText.{pbm_text}
@@ -8,7 +8,7 @@ use Rattle.point_fill.specs.PointsFile.{IsSomePointsFile}
 use Rattle.point_fill_run.specs.FillReply.{IsFillReply}
 use Rattle.point_fill.proofs.Traced.{one_filled}
 
--- a text that fills a page tells paths on it
+-- a text that fills a page describes paths on it
 pub tells_paths : (text : List ℕ) (page : Page) → IsFilled text page → IsSomePointsFile text
 tells_paths text page filled = (filled.width, filled.height, filled.paths, filled.told)
 
