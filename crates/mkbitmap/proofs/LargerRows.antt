@@ -1,4 +1,4 @@
--- The rows of the larger page from the reliefs that are held.
+-- The row that `enlarge` computes is the row of the larger page, from the reliefs that the filter holds.
 use Rattle.std.proofs.Common.{◌≡◌, ℕ, ◌+◌, ◌-◌, ◌*◌, ◌<◌, ◌≤◌, Bool, true, false, List, length, get_or, arith, sym, ap, ◌∙◌, inl, inr}
 use Rattle.std.specs.Prelude.{◌&&◌, if◌then◌else◌, nat_eq, nat_le, nat_lt}
 use Rattle.bit_image.specs.PbmText.{row_text}
@@ -16,7 +16,7 @@ use Rattle.mkbitmap.specs.Follows.{Follows}
 use Rattle.mkbitmap.specs.declared.limits.TheConstants.{GREATEST_MAXVAL, GREATEST_RELIEF}
 use Rattle.mkbitmap.proofs.ReliefBounds.{raised-most}
 
--- a box has a pixel
+-- a box has at least one pixel
 area_some : (page : Gray) (radius x y : ℕ) → x < page.width → y < page.height → 0 < box_area page radius x y
 area_some page radius x y in_row in_page =
     let one : 1 * 1 ≤ box_count radius page.width x * box_count radius page.height y = mul-le 1 1 _ _ (omega arith) (omega arith) in
@@ -32,7 +32,7 @@ raised_of-most : (page : Gray) (radius x y : ℕ) → page.sample x y ≤ page.m
 raised_of-most page radius x y bright in_row in_page =
     relief_by_most (nat_eq radius 0) (page.sample x y) (box_sum page radius x y) (box_area page radius x y) page.maxval (area_some page radius x y in_row in_page) bright
 
--- the reliefs of a row fit
+-- the reliefs of a row are at most 512 times white
 pub row_most : (page : Gray) (radius y : ℕ) (reliefs : List ℕ) → ((a b : ℕ) → page.sample a b ≤ page.maxval) → page.maxval ≤ GREATEST_MAXVAL → y < page.height
     → length reliefs ≡ page.width → ((x : ℕ) → x < page.width → get_or reliefs x 0 ≡ raised_of page radius x y) → (x : ℕ) → get_or reliefs x 0 ≤ GREATEST_RELIEF
 row_most page radius y reliefs bright white below wide raised x =
@@ -44,7 +44,7 @@ row_most page radius y reliefs bright white below wide raised x =
     ]
 
 module _ (page : Gray) (f : Filtering) (times y : ℕ) (follows : Follows page f) (pairs : f.pairs ≡ after_of times y + 1) where
-  -- a column of the page above and below a row of the larger page
+  -- a column of the page, mixed above and below a row of the larger page
   pub column_is : (p : ℕ) (upper lower : List ℕ) → p ≡ distance_behind times y → upper ≡ f.upper → lower ≡ f.lower → (x : ℕ) → x < f.width
       → mix (2 * times) p (get_or upper x 0) (get_or lower x 0) ≡ mixed_column page f.radius times y x
   column_is p upper lower part up low x within =
@@ -66,12 +66,12 @@ padded_same width black other same X =
           ap (λ t. t && black X) none ∙ sym (ap (λ t. t && other X) none)
     ]
 
--- the same row
+-- rows of equal pixels have equal texts
 pub packed_same : (width : ℕ) (black other : ℕ → Bool) → ((X : ℕ) → X < width → black X ≡ other X) → row_text width (padded width black) ≡ row_text width (padded width other)
 packed_same width black other same =
     ap (λ (p : ℕ → Bool). row_text width p) (fun_ext (padded_same width black other same))
 
--- whether a pixel is dark by the mixed columns
+-- a pixel is dark by the mixed columns exactly if it is black
 pub dark_is : (page : Gray) (radius times limit y X : ℕ) (columns : List ℕ)
     → ((u : ℕ) → u < page.width + 2 → get_or columns u 0 ≡ mixed_column page radius times y (before_within page.width u))
     → after_of times X + 1 < page.width + 2 → dark columns times limit X ≡ nat_le (mixed_raised page radius times X y) limit

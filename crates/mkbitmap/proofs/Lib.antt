@@ -1,3 +1,4 @@
+-- Lemmas about sums over boxes, reliefs and the rows of the larger page.
 pub mod BoxSums
 pub mod ReliefBounds
 pub mod FilledLists

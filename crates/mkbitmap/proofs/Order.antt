@@ -1,4 +1,4 @@
--- The rows of the larger page one below another: which rows of the page they are mixed of, and which they need.
+-- Lower rows of the larger page are mixed from lower rows of the page, and need lower ones, up to the last one.
 use Rattle.std.proofs.Common.{◌≡◌, ℕ, suc, ◌+◌, ◌*◌, ◌<◌, ◌≤◌, arith}
 use Rattle.std.proofs.lemmas.Nat.{div_below, le-div}
 use Rattle.mkbitmap.specs.Enlarged.{after_of, need}

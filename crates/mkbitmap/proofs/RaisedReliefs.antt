@@ -1,4 +1,4 @@
--- Reliefs raised, so that they aren't negative.
+-- Raised reliefs are reliefs plus half of white, and are never negative.
 use Rattle.std.proofs.Common.{◌≡◌, ℕ, ◌+◌, ◌-◌, ◌*◌, ◌/◌, ◌%◌, ◌<◌, ◌≤◌, min, Bool, true, false, arith, sym, ap, ◌∙◌, ℤ, pos, negsuc, ◌+ℤ◌, ◌-ℤ◌, ◌*ℤ◌, inl, inr}
 use Rattle.std.specs.Prelude.{if◌then◌else◌, nat_eq, nat_le}
 use Rattle.std.proofs.lemmas.Int.{ints}
@@ -11,14 +11,14 @@ use Rattle.mkbitmap.specs.Enlarged.{centre_of, centre_before, behind_of, clamped
 use Rattle.mkbitmap.proofs.Mixtures.{times_less, mixture, mixed_by, black_by}
 use Rattle.mkbitmap.proofs.BoxSums.{sum-most}
 
--- a multiple of the divisor more
+-- adding a multiple of the divisor adds to the quotient
 more_div : (m b k : ℕ) → 0 < b → (m + b * k) / b ≡ m / b + k
 more_div m b k some =
     let p : m / b * b + m % b ≡ m = div-add-mod' m b in
     let e : m + b * k ≡ (m / b + k) * b + m % b = omega (arith, p) in
     ap (λ n. n / b) e ∙ div-mul-add (m / b + k) b (m % b) (mod_below m b some)
 
--- what is missing up to a multiple, less one
+-- the quotient of what a number lacks to a multiple of the divisor, less one
 less_div : (m b k : ℕ) → 0 < b → m < b * k → (b * k - 1 - m) / b + (m / b + 1) ≡ k
 less_div m b k some below =
     let p : m / b * b + m % b ≡ m = div-add-mod' m b in
@@ -35,7 +35,7 @@ less_div m b k some below =
           omega (arith, high, p, below)
     ]
 
--- a floor, where a multiple of the divisor is added
+-- adding a multiple of the divisor adds to the quotient, for integers and rounding down
 pub floor_more : (a : ℤ) (b k : ℕ) → 0 < b → floor_of (a +ℤ pos (b * k)) b ≡ floor_of a b +ℤ pos k
 floor_more (pos m) b k some =
     let e : pos m +ℤ pos (b * k) ≡ pos (m + b * k) = omega (arith, ints) in
@@ -54,7 +54,7 @@ floor_more (negsuc m) b k some =
           ap (λ z. floor_of z b) e ∙ omega (arith, ints, q)
     ]
 
--- twice both
+-- a quotient stays the same if both numbers are doubled
 half : (x a : ℕ) → 0 < a → 2 * x / (2 * a) ≡ x / a
 half x a some =
     let p : x / a * a + x % a ≡ x = div-add-mod' x a in
@@ -71,7 +71,7 @@ raised_by-is sample sum area maxval some most =
     let n : a +ℤ pos (2 * area * (128 * maxval)) ≡ pos (2 * (256 * (area * (sample + maxval) - sum))) = omega (arith, ints) in
     sym more ∙ ap (λ z. floor_of z (2 * area)) n ∙ ap pos (half (256 * (area * (sample + maxval) - sum)) area some)
 
--- a box's sum
+-- a box's sum is at most its area times white
 box_sum-most : (page : Gray) (radius x y : ℕ) → ((a b : ℕ) → page.sample a b ≤ page.maxval) → box_sum page radius x y ≤ box_area page radius x y * page.maxval
 box_sum-most page radius x y bright =
     let column : (a : ℕ) → column_sum page radius y a ≤ box_count radius page.height y * page.maxval
@@ -91,14 +91,14 @@ either : (t : Bool) (sample sum area maxval : ℕ) → 0 < area → sum ≤ area
 either true sample sum area maxval some most = omega (arith, ints)
 either false sample sum area maxval some most = raised_by-is sample sum area maxval some most
 
--- a relief raised by half of white
+-- a raised relief is the relief plus half of white
 pub raised_of-is : (page : Gray) (radius x y : ℕ) → ((a b : ℕ) → page.sample a b ≤ page.maxval) → x < page.width → y < page.height
     → relief_of page radius x y +ℤ pos (128 * page.maxval) ≡ pos (raised_of page radius x y)
 raised_of-is page radius x y bright in_row in_page =
     either (nat_eq radius 0) (page.sample x y) (box_sum page radius x y) (box_area page radius x y) page.maxval
     (area_some page radius x y in_row in_page) (box_sum-most page radius x y bright)
 
--- where a pixel of the larger page lies
+-- the place of a pixel of the larger page, in natural numbers
 pub before-is : (times X : ℕ) → 1 ≤ times → centre_before times X +ℤ pos 1 ≡ pos (after_of times X)
 before-is times X some =
     let more : floor_of (centre_of times X +ℤ pos (2 * times * 1)) (2 * times) ≡ centre_before times X +ℤ pos 1
@@ -119,7 +119,7 @@ clamped-before count u (negsuc k) e = let n : u ≡ 0 = omega (arith, ints, e) i
 pub clamped-after : (count u : ℕ) (z : ℤ) → z +ℤ pos 1 ≡ pos u → clamped count (z +ℤ pos 1) ≡ before_within count (u + 1)
 clamped-after count u z e = ap (clamped count) e ∙ omega arith
 
--- a relief of the nearest pixel, raised
+-- the raised relief of the nearest pixel
 near-is : (page : Gray) (radius u v : ℕ) (x y : ℤ) → ((a b : ℕ) → page.sample a b ≤ page.maxval) → 1 ≤ page.width → 1 ≤ page.height
     → clamped page.width x ≡ before_within page.width u → clamped page.height y ≡ before_within page.height v
     → relief_near page radius x y ≡ pos (raised_of page radius (before_within page.width u) (before_within page.height v)) -ℤ pos (128 * page.maxval)
@@ -172,7 +172,7 @@ mixed-is page radius t X Y bright wide high some =
     (pos (raised_of page radius (before_within page.width (after_of t X + 1)) (before_within page.height (after_of t Y + 1))) -ℤ pos (128 * page.maxval)) +ℤ pos n) (sym k)
     ∙ whole
 
--- a pixel is black where its mixture, raised, is within the limit
+-- a pixel is black exactly if its mixture of raised reliefs is within the limit
 pub black-is : (page : Gray) (radius t level X Y : ℕ) → ((a b : ℕ) → page.sample a b ≤ page.maxval) → 1 ≤ page.width → 1 ≤ page.height → 1 ≤ t
     → is_black page radius t level X Y ≡ nat_le (mixed_raised page radius t X Y) (dark_limit page.maxval t level)
 black-is page radius t level X Y bright wide high some =
@@ -181,7 +181,7 @@ black-is page radius t level X Y bright wide high some =
     (mixed-is page radius t X Y bright wide high some)
     ∙ ap (λ n. nat_le (mixed_raised page radius t X Y) (n / 1000000)) d
 
--- the rows up to the needed one are those that the boxes of the second row around have
+-- the needed rows are the ones of the boxes around the second row
 pub need-is : (height radius t Y : ℕ) → 1 ≤ t → 1 ≤ height → need height radius t Y + 1 ≡ min height (after_of t Y + radius + 1)
 need-is height radius t Y some rows =
     let u : centre_before t Y +ℤ pos (1 + radius) ≡ pos (after_of t Y + radius) = omega (arith, ints, before-is t Y some) in

@@ -1,4 +1,4 @@
--- Going along a page row by row.
+-- The slots of a filter hold rows of a page, and still do after a row is taken, raised or dropped.
 use Rattle.std.proofs.Common.{◌≡◌, ℕ, suc, ◌+◌, ◌-◌, ◌*◌, ◌/◌, ◌%◌, ◌<◌, ◌≤◌, min, List, [], length, get_or, set, map, refl, arith, sym, ap, ◌∙◌, inl, inr, subst}
 use Rattle.std.specs.List.{range_with_len}
 use Rattle.std.specs.Prelude.{if◌then◌else◌, nat_eq}
@@ -14,7 +14,7 @@ use Rattle.mkbitmap.specs.Inner.Layout.{HasRoom, IsLaidOut, filtering_of, first_
 use Rattle.mkbitmap.specs.declared.filter.Filter.TheInside.{Inside}
 use Rattle.mkbitmap.proofs.BoxSums.{sum-first, sum-grown, sum-most, sum-same}
 
--- two rows of which fewer than n stand between don't share a slot
+-- two rows that are less than n apart have different slots
 apart : (n j t : ℕ) → 1 ≤ n → j < t → t < j + n → j % n ≡ t % n → ⊥
 apart n j t some before near same =
     let p : j / n * n + j % n ≡ j = div-add-mod' j n in
@@ -28,7 +28,7 @@ apart n j t some before near same =
           omega (arith, p, q, same, back, before)
     ]
 
--- a ring of n slots, in which row j stands in slot j % n, takes a row where fewer than n are held
+-- a ring of n slots that holds fewer than n rows takes another row; row j is in slot j % n
 module _ (n low taken : ℕ) (ring : List (List ℕ)) (s : List ℕ) (some : 1 ≤ n) (len : length ring ≡ n) (near : taken < low + n) where
   slot_other : (j : ℕ) → low ≤ j → j < taken → get_or (set ring (taken % n) s) (j % n) [] ≡ get_or ring (j % n) []
   slot_other j from less = get_or-set_other ring (taken % n) (j % n) s [] (λ e. apart n j taken some less (omega (arith, near, from)) e)
@@ -36,7 +36,7 @@ module _ (n low taken : ℕ) (ring : List (List ℕ)) (s : List ℕ) (some : 1 �
   slot_same : get_or (set ring (taken % n) s) (taken % n) [] ≡ s
   slot_same = get_or-set_same ring (taken % n) s [] (rw len (mod_below taken n some))
 
-  -- what holds of each row that is held, and of the one that comes, holds of the rows that are held then
+  -- a fact about each row that is held, and about the new row, holds for all rows afterwards
   pub rows_next : (P : ℕ → List ℕ → Type 0) → ((j : ℕ) → low ≤ j → j < taken → P j (get_or ring (j % n) [])) → P taken s
       → (j : ℕ) → low ≤ j → j < taken + 1 → P j (get_or (set ring (taken % n) s) (j % n) [])
   rows_next P held here j from to =
@@ -47,7 +47,7 @@ module _ (n low taken : ℕ) (ring : List (List ℕ)) (s : List ℕ) (some : 1 �
             subst (λ k. P k (get_or (set ring (taken % n) s) (k % n) [])) is (subst (P taken) (sym slot_same) here)
       ]
 
-  -- the columns' sums with it
+  -- the columns' sums with the new row
   pub sums_next : low ≤ taken → (x : ℕ)
       → sum_between (λ j. get_or (get_or ring (j % n) []) x 0) low taken + get_or s x 0
       ≡ sum_between (λ j. get_or (get_or (set ring (taken % n) s) (j % n) []) x 0) low (taken + 1)
@@ -69,11 +69,11 @@ slot_next n i width ring s within widths same k h =
       | inr isnt ↦ ap length (get_or-set_other ring i k s [] isnt) ∙ widths k h
     ]
 
--- an item, whatever would stand in its place if there were none
+-- an item that exists doesn't depend on the default
 pub slot_is : (ring : List (List ℕ)) (i : ℕ) (s : List ℕ) → i < length ring → s ≡ get_or ring i s → s ≡ get_or ring i []
 slot_is ring i s within is = is ∙ get_or_default ring i s [] within
 
--- there is a free slot where another row is wanted
+-- there is a free slot if another row is needed
 pub has_slot : (f : Inside) → HasRoom f → f.taken < min f.height (f.pairs + f.radius + 1) → f.taken < first_held f + (2 * f.radius + 1)
 has_slot f room wanted = omega (arith, wanted, room.pairs)
 
@@ -91,7 +91,7 @@ sums_small f laid x =
       | inr past ↦ rw (get_or_past f.columns.items x 0 (omega (arith, laid.room.columns, past))) (omega arith)
     ]
 
--- The page whose rows stand in the slots.
+-- A page with the rows that the slots hold.
 
 pub record RingHolds (page : Gray) (f : Inside) : Type 0 where
   pub width : page.width ≡ f.width
@@ -100,7 +100,7 @@ pub record RingHolds (page : Gray) (f : Inside) : Type 0 where
   pub bright : (x y : ℕ) → page.sample x y ≤ f.maxval
   pub held : (j : ℕ) → first_held f ≤ j → j < f.taken → (x : ℕ) → x < f.width → get_or (held_row f j) x 0 ≡ page.sample x j
 
--- there is one
+-- there is such a page
 abbrev pub held_page : Inside → Gray
 held_page f = record { width = f.width; height = f.height; maxval = f.maxval; sample = λ x y. min (get_or (held_row f y) x 0) f.maxval }
 
@@ -119,7 +119,7 @@ held_length f = length-map-range_with_len (held_row f) (first_held f) (f.taken -
 held_at : (f : Inside) (k j : ℕ) → k < f.taken - first_held f → first_held f + k ≡ j → get_or (filtering_of f).held k [] ≡ held_row f j
 held_at f k j = get_or-map-range_with_len (held_row f) (first_held f) (f.taken - first_held f) k j []
 
--- the slots have what the filter holds
+-- the slots hold the rows of a page if the filter does
 pub ring_of : (page : Gray) (f : Inside) → IsLaidOut f → HoldsRows page (filtering_of f) → RingHolds page f
 ring_of page f laid holds = record {
   width = holds.width;
@@ -137,7 +137,7 @@ ring_of page f laid holds = record {
       omega (arith, here, laid.bright j from to x, holds.maxval);
 }
 
--- and the other way round
+-- the filter holds the rows of a page if the slots do
 pub holds_of : (page : Gray) (g : Filtering) (n low : ℕ) (ring : List (List ℕ)) → g.held ≡ map (λ j. get_or ring (j % n) []) (range_with_len low (g.taken - low)) → low ≤ g.taken
     → page.width ≡ g.width → page.height ≡ g.height → page.maxval ≡ g.maxval → ((x y : ℕ) → page.sample x y ≤ g.maxval)
     → ((j : ℕ) → low ≤ j → j < g.taken → (x : ℕ) → x < g.width → get_or (get_or ring (j % n) []) x 0 ≡ page.sample x j) → HoldsRows page g
@@ -159,20 +159,20 @@ holds_of page g n low ring has order width height maxval bright held = record {
       });
 }
 
--- the columns' sums are those of its rows
+-- the columns' sums are those of the page's rows
 sums_are : (page : Gray) (f : Inside) → IsLaidOut f → RingHolds page f → (x : ℕ) → x < f.width → get_or f.columns.items x 0 ≡ sum_between (page.sample x) (first_held f) f.taken
 sums_are page f laid ring x within =
     laid.sums x within ∙ sum-same (λ j. get_or (held_row f j) x 0) (page.sample x) (first_held f) f.taken (λ j from to. ring.held j from to x within)
 
--- the same of four numbers
+-- a function has equal values for four pairs of equal numbers
 four : (F : ℕ → ℕ → ℕ → ℕ → ℕ) {a b c d a' b' c' d' : ℕ} → a ≡ a' → b ≡ b' → c ≡ c' → d ≡ d' → F a b c d ≡ F a' b' c' d'
 four F p q r s = λ i. F (p i) (q i) (r i) (s i)
 
--- the relief of the next row, from the sums of the columns
+-- the raised relief of the next row, from the sums of the columns
 abbrev raised_with : ℕ → ℕ → ℕ → ℕ → ℕ → ℕ
 raised_with radius sample sum area maxval = if nat_eq radius 0 then 256 * sample + 128 * maxval else raised_by sample sum area maxval
 
--- a relief was worked out from row s of the ring and from the columns' sums
+-- a relief was computed from row s of the ring and from the columns' sums
 pub record IsRaisedFrom (f : Inside) (x : ℕ) (s columns : List ℕ) (rows v : ℕ) : Type 0 where
   pub row_is : s ≡ held_row f f.pairs
   pub columns_are : columns ≡ f.columns.items
@@ -201,7 +201,7 @@ module _ (page : Gray) (f : Inside) (laid : IsLaidOut f) (holds : RingHolds page
       = ap (λ n. box_count f.radius n x * rows) wide ∙ ap (λ n. box_count f.radius page.width x * n) high in
       from.value_is ∙ four (raised_with f.radius) sample sum area (sym holds.maxval)
 
--- a column's sum, and the sample of it that goes
+-- a column's sum is at least the sample that is subtracted
 pub first_goes : (f : Inside) → IsLaidOut f → f.pairs < f.height → f.radius ≤ f.pairs → f.taken ≡ min f.height (f.pairs + f.radius + 1) → (x : ℕ) → x < f.width → (s : List ℕ)
     → s ≡ held_row f (f.pairs - f.radius)
     → get_or f.columns.items x 0 ≡ get_or s x 0 + sum_between (λ j. get_or (held_row f j) x 0) (min (f.pairs + 1) f.height - f.radius) f.taken
@@ -214,12 +214,12 @@ first_goes f laid due from ready x within s is =
     laid.sums x within ∙ ap (λ k. sum_between sample k f.taken) low ∙ first ∙ ap (λ (r : List ℕ). get_or r x 0 + sum_between sample (suc (f.pairs - f.radius)) f.taken) (sym is)
     ∙ ap (λ k. get_or s x 0 + sum_between sample k f.taken) (sym next)
 
--- reliefs that were kept
+-- reliefs that were copied
 pub carried : (page : Gray) (f g : Filtering) (xs ys : List ℕ) (y z : ℕ) → SameSetup f g → ys ≡ xs → z ≡ y → AreRaised page f xs y → AreRaised page g ys z
 carried page f g xs ys y z same items row raised x within =
     ap (λ (l : List ℕ). get_or l x 0) items ∙ raised x (omega (arith, within, same.width)) ∙ ap (λ k. raised_of page f.radius x k) (sym row) ∙ ap (λ r. raised_of page r x z) (sym same.radius)
 
--- it went on twice
+-- two changes of a filter, one after the other
 pub same_twice : (f g h : Filtering) → SameSetup f g → SameSetup g h → SameSetup f h
 same_twice f g h a b = record {
   width = b.width ∙ a.width;

@@ -1,4 +1,4 @@
--- What `clap` answers is what the words ask for.
+-- What `clap` answers is what the command line asks for.
 use Rattle.std.proofs.Common.{◌≡◌, ◌≢◌, ◌∙◌, ◌⊎◌, ℕ, Bool, true, false, List, [], ◌∷◌, refl, sym, ap, subst, inl, inr, true≢false}
 use Rattle.clap.specs.Walk.{Row}
 use Rattle.clap.specs.Simple.{App, is_simple, matches_of}
@@ -23,7 +23,7 @@ simple_command = refl
 few_in_words : (words : List (List ℕ)) → IsFew (fault_of filter_command words)
 few_in_words words = few_faults filter_command words refl refl
 
--- the words are taken
+-- `clap` accepts the arguments
 module _ (a : App) (words : List (List ℕ)) (rows : List Row) (e : a ≡ filter_command) (free : is_simple_and_free a ≡ true → fault_of a words ≡ [])
     (found : is_simple a ≡ true → rows ≡ matches_of a words) where
   no_fault : fault_of filter_command words ≡ []
@@ -47,7 +47,7 @@ abbrev is_memory : ErrorKind → Bool
 is_memory kind.OutOfMemory = true
 is_memory _ = false
 
--- they aren't
+-- `clap` finds an error
 module _ (a : App) (words : List (List ℕ)) (k : ErrorKind) (e : a ≡ filter_command)
     (has : is_simple_and_free a ≡ true → (k ≡ kind.OutOfMemory) ⊎ IsAmong k (fault_of a words)) where
   one_fault : k ≢ kind.OutOfMemory → fault_of filter_command words ≡ k ∷ []
@@ -65,7 +65,7 @@ module _ (a : App) (words : List (List ℕ)) (k : ErrorKind) (e : a ≡ filter_c
   refuses_by other memory ask asks =
       other (subst (λ (ks : Kinds). AsksFilter ks (matches_of filter_command words) ask) (one_fault memory) asks).0
 
--- a setup that is asked for can be used
+-- a page can be filtered with a setup that is asked for
 can_by : (kinds : Kinds) (rows : List Row) (setup : Setup) → AsksFilter kinds rows (Page setup) → CanFilter setup
 can_by [] rows setup gives = record { most_radius = gives.most_radius; some_times = gives.some_times; most_times = gives.most_times; most_level = gives.most_level }
 can_by (fault ∷ kinds) rows setup (help, is) = absurd (let never : Page setup ≡ Help = is in cc)
@@ -73,7 +73,7 @@ can_by (fault ∷ kinds) rows setup (help, is) = absurd (let never : Page setup 
 pub asked_can : (words : List (List ℕ)) (setup : Setup) → IsFilterAsked words (Page setup) → CanFilter setup
 asked_can words setup asks = can_by (fault_of filter_command words) (matches_of filter_command words) setup asks
 
--- One ask.
+-- At most one thing is asked for.
 
 one_setup : (rows : List Row) (s t : Setup) → GivesSetup rows s → GivesSetup rows t → s ≡ t
 one_setup rows s t a b =
