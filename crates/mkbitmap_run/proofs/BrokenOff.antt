@@ -1,4 +1,4 @@
--- Rows of the result that are written one after another, and what breaks that off.
+-- What the document holds after each row of the result, and after a call that failed.
 use Rattle.std.proofs.Common.{◌≡◌, ℕ, suc, zero, ◌+◌, ◌-◌, ◌*◌, ◌≤◌, ◌<◌, inr, List, [], ◌++◌, length, take, refl, ap, sym, ◌∙◌, subst, arith, Option, Result, Ok, Err, length-append}
 use Rattle.std.proofs.lemmas.List.{take_all}
 use Rattle.std.proofs.lemmas.Nat.{mul-le}
@@ -33,7 +33,7 @@ pos_of a b one two = mul-le 1 1 a b one two
 
 -- How calls end.
 
--- behind calls that went well
+-- calls after calls that succeeded
 pub ends_on : {X : Type 0} (result : Result X Break) (a b c : World) → b.source.faults ≡ a.source.faults → AllWent a.outs b.outs → StepEnds result b c → StepEnds result a c
 ends_on (Ok x) a b c same before (steady, went) = (steady ∙ same, went_on a.outs b.outs c.outs before went)
 ends_on (Err (breaks.Input fault)) a b c same before (counts, went) =
@@ -42,7 +42,7 @@ ends_on (Err breaks.Output) a b c same before (steady, broke) = (steady ∙ same
 
 -- The rows of the result.
 
--- those above row Y were put
+-- the rows above row Y were written
 pub record HasPutAbove (Y : ℕ) (old : Work) (before : World) (at : Work) (mid : World) : Type 0 where
   pub stays : StaysOpened at.reader before.source mid.source
   pub rows : List (List ℕ)
@@ -105,7 +105,7 @@ module _ (Y : ℕ) (old : Work) (before : World) (at : Work) (mid : World) (star
       let rises = need-rises old.reader.head.height old.filter.radius old.filter.times (Y - 1) Y some tall (omega arith) in
       omega (arith, read, rises)
 
-  -- row Y can be put, if there is one
+  -- row Y can be written, if there is one
   pub can_put : Y < old.filter.times * old.reader.head.height → CanPut Y at mid.source
   can_put within = record {
     reading = held.stays.reading;
@@ -116,7 +116,7 @@ module _ (Y : ℕ) (old : Work) (before : World) (at : Work) (mid : World) (star
     ahead = rw (same_need old at before.source.files mid.source.files held.rows held.along Y) (ahead Y refl);
   }
 
-  -- it was put, too
+  -- after row Y was written, the rows above row Y + 1 were written
   pub above_too : (new : Work) (now : World) → PutsRow Y at mid new now → StaysOpened new.reader mid.source now.source → now.source.faults ≡ mid.source.faults → AllWent mid.outs now.outs
       → HasPutAbove (Y + 1) old before new now
   above_too new now row stays steady went =
@@ -150,7 +150,7 @@ module _ (Y : ℕ) (old : Work) (before : World) (at : Work) (mid : World) (star
       let rises = need-rises old.reader.head.height old.filter.radius old.filter.times y (Y - 1) some tall (omega (arith, within)) in
       let read = held.read (omega (arith, within)) in omega (arith, rises, read, many)
 
-  -- it broke that off
+  -- writing stopped at row Y
   pub rows_break : (why : Break) (new : Work) (now : World) → Y < old.filter.times * old.reader.head.height → BreaksRow why Y at mid new now → BreaksRows why old before new now
   rows_break (breaks.Input fault) new now within (stop, none) =
       let all : StopsBefore (cause_of_fault fault) Y old before.source.files new.reader now.source.files = record {
@@ -187,7 +187,7 @@ module _ (Y : ℕ) (old : Work) (before : World) (at : Work) (mid : World) (star
             ),
       )
 
-  -- all were put
+  -- all rows were written
   pub all_put : Y ≡ old.filter.times * old.reader.head.height → PutsAll old before at mid
   all_put is =
       let any : 1 ≤ old.filter.times * old.reader.head.height = pos_of old.filter.times old.reader.head.height some tall in
@@ -198,9 +198,9 @@ module _ (Y : ℕ) (old : Work) (before : World) (at : Work) (mid : World) (star
         puts = subst (λ (n : ℕ). PutsRows (setup_of old.filter) (header_of old.reader) held.rows n before.outs.documents mid.outs.documents) is held.puts;
       }
 
--- The document: its head, and then the rows.
+-- The document: its beginning, and then the rows.
 
--- rows broke off behind the head, which had been written
+-- writing stopped at a row, after the document's beginning was written
 pub page_breaks : (why : Break) (old new : Work) (before now : World) (first : Told) → IsBeforeRows old
     → first.documents ≡ with_open before.outs.documents dash (result_head (setup_of old.filter) (header_of old.reader))
     → BreaksRows why old (record { source = before.source; outs = first }) new now → BreaksPage why old before new now
@@ -219,7 +219,7 @@ page_breaks breaks.Output old new before now first start head (Y, within, rows, 
   inr (Y, within, read, λ page has. let (i, most, is) = puts page has in (i, most, is ∙ ap (λ (d : Option Documents). with_bytes d (rows_above (setup_of old.filter) page Y ++ take i (result_row (setup_of old.filter) page Y))) head)),
 )
 
--- the head was written
+-- the document's beginning was written
 pub head_put : (old begun put : Option Documents) (name text head : List ℕ) → begun ≡ with_open old name [] → put ≡ with_bytes begun text → text ≡ head → put ≡ with_open old name head
 head_put old begun put name text head opened wrote is =
     wrote ∙ ap (λ (d : Option Documents). with_bytes d text) opened ∙ opened_with old name [] text ∙ ap (with_open old name) is
@@ -227,7 +227,7 @@ head_put old begun put name text head opened wrote is =
 module _ (setup : Setup) (header : PageHeader) (rows : List (List ℕ)) (old first put last : Option Documents) (some : 1 ≤ setup.times) (tall : 1 ≤ header.height)
     (all : length rows ≡ header.height) (head : first ≡ with_open old dash (result_head setup header))
     (puts : PutsRows setup header rows (setup.times * header.height) first put) where
-  -- and all rows, and it was ended
+  -- all rows were written, and the document was ended
   pub page_put : last ≡ with_end put → last ≡ with_whole old dash (result_text setup header rows)
   page_put ended =
       let page = scan_of header rows in
@@ -238,7 +238,7 @@ module _ (setup : Setup) (header : PageHeader) (rows : List (List ℕ)) (old fir
       ∙ ended_with old dash (result_head setup header ++ rows_above setup page (setup.times * header.height))
       ∙ ap (λ (l : List ℕ). with_whole old dash (result_head setup header ++ l)) (sym same)
 
-  -- or its end failed: its last row is there whole
+  -- all rows were written, and ending the document failed
   pub page_cut : last ≡ put → (Y : ℕ) × (Y < setup.times * header.height) × (length rows ≡ need_of setup header Y)
       × PutsFront setup header rows Y (with_open old dash (result_head setup header)) last
   page_cut same =

@@ -1,4 +1,4 @@
--- What is there of a document.
+-- What a document holds if writing it failed.
 use Rattle.std.proofs.Common.{◌≡◌, ℕ, ◌*◌, ◌≤◌, ◌<◌, inl, inr, List, [], ◌++◌, length, take, get_or, min, refl, ap, sym, ◌∙◌, subst, arith, Option, None, Some, append-nil, length-append}
 use Rattle.std.proofs.lemmas.List.{get_or_append_left, take-append-le}
 use Rattle.pt_core.specs.Documents.{Documents, IsCutOff, with_bytes, with_end, with_open, with_whole}
@@ -34,7 +34,7 @@ pub scan_is : (header : PageHeader) (rows : List (List ℕ)) → HasFirstRows he
 scan_is header rows = subst (λ (l : List (List ℕ)). HasFirstRows header rows (scan_of header l)) (append-nil rows) (scan_begins header rows [])
 
 module _ (setup : Setup) (header : PageHeader) (some : 1 ≤ setup.times) (tall : 1 ≤ header.height) where
-  -- rows above one, and no more: those that these rows of the page are enough for
+  -- the document has exactly the rows above row Y if the page's rows suffice for these and no others
   pub text_above : (rows : List (List ℕ)) (Y : ℕ) (old new : Option Documents) → Y ≤ setup.times * header.height → ((y : ℕ) → y < Y → need_of setup header y ≤ length rows)
       → length rows ≤ need header.height setup.radius setup.times Y → PutsRows setup header rows Y (with_open old dash (result_head setup header)) new
       → new ≡ with_open old dash (result_text setup header rows)
@@ -43,7 +43,7 @@ module _ (setup : Setup) (header : PageHeader) (some : 1 ≤ setup.times) (tall 
       ∙ ap (λ (l : List ℕ). with_open old dash (result_head setup header ++ l))
       (sym (rows_end setup (scan_of header rows) some tall (length rows) Y (setup.times * header.height) within (λ y below. let e = enough y below in omega (arith, e)) few))
 
-  -- a document that was cut off is a front of what more rows of the page are enough for
+  -- a document that was cut off is a prefix of the document for more rows of the page
   pub cut_of_more : (rows more : List (List ℕ)) (old new : Option Documents) → IsCutAt setup header rows old new → IsCutOff old new dash (result_text setup header (rows ++ more))
   cut_of_more rows more old new (inl (none, inl same)) = inl same
   cut_of_more rows more old new (inl (none, inr (n, most, is))) =
@@ -61,7 +61,7 @@ module _ (setup : Setup) (header : PageHeader) (some : 1 ≤ setup.times) (tall 
       (λ y below. let rises = need-rises header.height setup.radius setup.times y Y some tall (omega (arith, below)) in omega (arith, rises, read, more_rows)) most in
       inr (k, short, is ∙ opened_with old dash head (rows_above setup page Y ++ take n (result_row setup page Y)) ∙ ap (with_open old dash) (sym front))
 
-  -- no more rows were read than there are
+  -- at most the page's rows were read
   pub cut_few : (rows : List (List ℕ)) (old new : Option Documents) → IsCutAt setup header rows old new → length rows ≤ header.height
   cut_few rows old new (inl (none, cut)) = rw none (omega arith)
   cut_few rows old new (inr (Y, within, read, puts)) = let ends = need-ends header.height setup.radius setup.times Y some tall in omega (arith, read, ends)

@@ -1,4 +1,4 @@
--- Rows that a reader gives, one after another.
+-- The rows that a reader returned, one after the other.
 use Rattle.std.proofs.Common.{◌≡◌, ℕ, zero, suc, ◌≤◌, true, List, [], ◌∷◌, ◌++◌, map, refl, ap, sym, ◌∙◌, subst, arith, Option, append_assoc, append-nil, length-append, min, get_or}
 use Rattle.std.proofs.lemmas.List.{get_or_append_left}
 use Rattle.pt_core.specs.Files.{Files}
@@ -17,7 +17,7 @@ use Rattle.mkbitmap_run.specs.Inner.FilterWork.{GivesRows, StopsRow, header_of}
 use Rattle.mkbitmap_run.specs.FilterRun.{HasFirstRows}
 use Rattle.mkbitmap_run.proofs.RowPrefixes.{cut_stays, leaves_on, leaves_weaken}
 
--- none were given
+-- no row was read
 pub gives_none : (reader : GraySource) (files : Option Files) → GivesRows reader files [] reader files
 gives_none reader files = record {
   more = [];
@@ -28,7 +28,7 @@ gives_none reader files = record {
   given = omega arith;
 }
 
--- one was
+-- one row was read
 pub gives_one : (old new : GraySource) (before now : Option Files) (row : List ℕ) → (gives : GivesRow old before row new now) → GivesRows old before (gives.values ∷ []) new now
 gives_one old new before now row gives = record {
   more = gives.cut.more;
@@ -51,7 +51,7 @@ same_header a b head plain = λ i. record { plain = plain i; width = (head i).wi
 pub header_stays : (old new : GraySource) (before now : Option Files) (rows : List (List ℕ)) → GivesRows old before rows new now → header_of new ≡ header_of old
 header_stays old new before now rows gives = same_header old new gives.same_head gives.same_kind
 
--- some were, and then others
+-- some rows were read, and then others
 pub gives_on : (old mid new : GraySource) (before at now : Option Files) (xs ys : List (List ℕ)) → GivesRows old before xs mid at → GivesRows mid at ys new now
     → GivesRows old before (xs ++ ys) new now
 gives_on old mid new before at now xs ys a b = record {
@@ -89,7 +89,7 @@ get_or-lowered [] x = refl
 get_or-lowered (v ∷ row) zero = refl
 get_or-lowered (v ∷ row) (suc x) = get_or-lowered row x
 
--- the samples of a row as the reader gives them
+-- the samples of a row as the reader returns them
 pub lowered_row : (page : Gray) (y : ℕ) (row : List ℕ) → page.maxval ≤ 65535 → IsRow page y row → IsRow page y (map lowered row)
 lowered_row page y row most is = record {
   sample = λ x within. is.sample x within
@@ -97,7 +97,7 @@ lowered_row page y row most is = record {
       ∙ ap (λ (v : ℕ). min v page.maxval) (sym (get_or-lowered row x));
 }
 
--- Why the next row isn't there.
+-- Why the next row couldn't be read.
 pub stops_row : (why : InFault) (old : GraySource) (before : Option Files) (new : GraySource) (now : Option Files)
     → IfKind (cause_of_fault why) (λ kind. Refuses (cut_row (header_of old)) kind old before new now) → (why ≡ fault.ReadFault → FailsToRead (cut_row (header_of old)) old before new now)
     → (why ≡ fault.NoMemory → ⊥) → StopsRow (cause_of_fault why) old before new now

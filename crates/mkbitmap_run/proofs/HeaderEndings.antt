@@ -1,4 +1,4 @@
--- How a run ends that stops at the page's header.
+-- A run that stops at the page's header is as defined.
 use Rattle.std.proofs.Common.{◌≡◌, ℕ, ◌⊎◌, inl, inr, Bool, true, false, ◌||◌, List, [], ◌++◌, refl, ap, sym, ◌∙◌, subst, arith, codes, Option}
 use Rattle.pt_core.specs.Counts.{Rose, next_count}
 use Rattle.pt_core.specs.Files.{Files, Lacks}
@@ -60,7 +60,7 @@ ends_so g (Stops e why) = refl
 head_ends : (bytes : List ℕ) → is_by_end (page_header bytes) ≡ is_by_end (gray_header bytes)
 head_ends bytes = ends_so (λ h. record { plain = h.plain; width = h.width; height = h.height; maxval = h.maxval }) (gray_header bytes)
 
--- its sides are those of a page
+-- the header's sides are in the range for pages
 pub header_sided : (bytes : List ℕ) (e : Bool) (header : PageHeader) (rest : List ℕ) → page_header bytes ≡ Takes e header rest → AreSidesInRange header.width header.height
 header_sided bytes =
     cuts_bind IsHeaderSided (λ (h : PageHeader) _. AreSidesInRange h.width h.height) (gray_header bytes) _ (cuts_gray_header bytes)
@@ -128,7 +128,7 @@ module _ (setup : Setup) (source now : Source) (old new : Sinks) where
   }
 
 module _ (source mid : Source) (reader : GraySource) (stands : StandsBehindHead source reader mid) (at_end : reader.ended ≡ true → AtEnd mid.files) where
-  -- it is there
+  -- standard input isn't missing
   pub there_behind_head : Lacks source.files dash → ⊥
   there_behind_head lacks =
       let (more, has, none) = all_of_taken source.files mid.files stands.taken reader.ended stands.has at_end in is_not_missing source.files (stands.taken ++ more) has lacks
@@ -155,7 +155,7 @@ module _ (source mid : Source) (reader : GraySource) (stands : StandsBehindHead 
         unwritten = not_unwritten status.Refused old new (same_outs old new says.same);
       }
 
--- a row isn't there
+-- a row couldn't be read
 pub run_at_row : (setup : Setup) (source now : Source) (p : RunsPage setup source now) (old new : Sinks) (why : Cause) (last : ℕ)
     → (stop : StopsBehind why last p.reader p.mid.files p.after now.files) → CountsBy why p.mid.faults now.faults
     → LeavesOpen (result_text setup (header_of p.reader) stop.rows) (page_says (cause_text why)) old new → IsPageRun setup (cause_ending why) source now old new
@@ -195,7 +195,7 @@ pub not_opened : (e : OpenFault) (files : Option Files) (n m : ℕ) → ((e ≡ 
 not_opened faults.Absent files n m lacks same rose = inl (lacks refl, same refl)
 not_opened faults.Device files n m lacks same rose = inr (rose refl)
 
--- what is refused is no read fault
+-- a refusal isn't a read fault
 pub refused_cause : (f : InFault) → (f ≡ fault.ReadFault → ⊥) → (f ≡ fault.NoMemory → ⊥) → status.Refused ≡ cause_ending (cause_of_fault f)
 refused_cause fault.UnknownFormat a b = refl
 refused_cause fault.BadHeader a b = refl

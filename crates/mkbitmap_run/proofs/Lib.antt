@@ -1,3 +1,4 @@
+-- Lemmas about rows that are read and written, and about how a run ends.
 pub mod RowPrefixes
 pub mod GivenRows
 pub mod ResultRows

@@ -1,4 +1,4 @@
--- How a run ends, by what was read of the page and what was written.
+-- A run that has read the page's header is as defined, whichever rows were read and written.
 use Rattle.std.proofs.Common.{◌≡◌, ℕ, suc, ◌-◌, ◌≤◌, ◌<◌, ◌&&◌, inl, inr, Bool, true, false, List, [], ◌++◌, length, refl, ap, sym, ◌∙◌, subst, arith, codes, nat_eq, if◌then◌else◌, append_assoc, append-nil, Option}
 use Rattle.pt_core.specs.Counts.{Rose, next_count}
 use Rattle.pt_core.specs.Files.{Files}
@@ -31,7 +31,7 @@ use Rattle.mkbitmap_run.proofs.GivenRows.{header_stays}
 use Rattle.mkbitmap_run.proofs.RowPrefixes.{cut_stays, leaves_weaken, near_of, none_settled, settled_is, standing_is}
 use Rattle.mkbitmap_run.proofs.TakenBytes.{all_of_taken, taken_on}
 
--- How the bytes say that a run ends.
+-- How a run ends, by the bytes.
 
 same_numbers : (a b : ℕ) → a ≡ b → nat_eq a b ≡ true
 same_numbers a b same = grind (arith, same)
@@ -55,11 +55,11 @@ module _ (setup : Setup) (bytes : List ℕ) (e : Bool) (header : PageHeader) (re
   pub too_large : fits_result setup header.width header.height ≡ false → page_ending setup bytes ≡ status.Refused
   too_large large = ending_by false (nat_eq (length (rows_behind header rest)) header.height) large refl
 
--- the outputs weren't called, or well
+-- no call of the outputs failed
 pub not_unwritten : (end : Status) (old new : Sinks) → new.outs.faults ≡ old.outs.faults → old.outs.faults < new.outs.faults → end ≡ status.Unwritten
 not_unwritten end old new same less = absurd (omega (arith, same, less))
 
--- the header stands there, and these rows behind it, with what is behind what was taken
+-- the bytes begin with the header and these rows, followed by the bytes that the reader holds and the unread ones
 record StandsSo (header : PageHeader) (bytes : List ℕ) (rows : List (List ℕ)) (left : List ℕ) (ended : Bool) : Type 0 where
   by_end : Bool
   rest : List ℕ
@@ -82,7 +82,7 @@ module _ (source mid : Source) (reader : GraySource) (stands : StandsBehindHead 
         leaves = subst (λ (l : List ℕ). LeavesRows new.ended (cut_row (header_of reader)) l rows (new.bytes ++ tail)) (append_assoc reader.bytes gives.more tail) (gives.leaves tail none);
       }
 
-  -- no more was taken behind the rows than a reader holds
+  -- after the rows, no more was read than a reader holds
   reads_near : (new : GraySource) (now : Option Files) (rows : List (List ℕ)) → (gives : GivesRows reader mid.files rows new now) → length new.bytes ≤ 65536
       → ReadsNearRows (header_of reader) (stands.taken ++ gives.more) rows
   reads_near new now rows gives within =
@@ -97,7 +97,7 @@ module _ (source mid : Source) (reader : GraySource) (stands : StandsBehindHead 
         near = omega (arith, within, ap length (append-nil new.bytes));
       }
 
--- a page whose head was read, and of whose rows some were
+-- a page for which the header and some rows were read
 pub record RunsPage (setup : Setup) (source now : Source) : Type 0 where
   pub mid : Source
   pub reader : GraySource
@@ -106,7 +106,7 @@ pub record RunsPage (setup : Setup) (source now : Source) : Type 0 where
   pub fits : fits_result setup reader.head.width reader.head.height ≡ true
   pub stays : StaysOpened after mid now
 
--- the page that was begun behind this head, and put as far as may be
+-- a page for which this header was read and the result written, whole or in part
 abbrev pub runs_page : (setup : Setup) (source mid now : Source) (head : GrayHead) (reader after : GraySource) (work : Work) → StandsBehindHead source reader mid → BeginsWork setup reader work
     → HasReadHead head reader → fits_result setup head.width head.height ≡ true → StaysOpened after mid now → RunsPage (setup_of work.filter) source now
 runs_page setup source mid now head reader after work stands begins read fits stays =

@@ -1,4 +1,4 @@
--- A page at work, whose reader and filter go along its rows together.
+-- The reader and the filter of a page in progress go through its rows together.
 use Rattle.std.proofs.Common.{◌≡◌, ℕ, ◌+◌, ◌*◌, ◌≤◌, ◌<◌, List, [], ◌∷◌, ◌++◌, length, min, nat_eq, nat_le, nat_lt, ◌&&◌, true, false, refl, ap, sym, ◌∙◌, subst, arith, Option, length-append, append-nil, append_assoc}
 use Rattle.std.proofs.lemmas.List.{get_or_push}
 use Rattle.pt_core.specs.Files.{Files}
@@ -23,7 +23,7 @@ use Rattle.mkbitmap_run.proofs.GivenRows.{fewer_rows, gives_none, gives_on, give
 
 -- Tests of numbers.
 
--- two numbers that aren't the same
+-- two different numbers
 pub is_less : (a b : ℕ) → nat_eq a b ≡ false → a ≤ b → a < b
 is_less a b other most = grind (arith, other, most)
 
@@ -39,7 +39,7 @@ fits_both a b c d both = grind (arith, both)
 pub same_setup : (f g : Filtering) → SameSetup f g → setup_of g ≡ setup_of f
 same_setup f g same = λ i. record { radius = same.radius i; times = same.times i; level = same.level i }
 
--- What stays where a page at work goes along.
+-- What stays the same while a page in progress goes on.
 module _ (old new : Work) (before now : Option Files) (next : List (List ℕ)) (goes : GoesAlong old before next new now) where
   pub same_header : header_of new.reader ≡ header_of old.reader
   same_header = header_stays old.reader new.reader before now next goes.gives
@@ -53,7 +53,7 @@ module _ (old new : Work) (before now : Option Files) (next : List (List ℕ)) (
   pub same_rows : new.filter.times * new.reader.head.height ≡ old.filter.times * old.reader.head.height
   same_rows = λ i. (goes.setup i).times * (same_header i).height
 
--- Ways along a page, one behind another.
+-- Going through rows, and then through further rows.
 
 pub along_none : (work : Work) (files : Option Files) → GoesAlong work files [] work files
 along_none work files = record {
@@ -70,7 +70,7 @@ along_on old mid new before at now xs ys a b = record {
   along = λ rows work. subst (λ (l : List (List ℕ)). IsAtWork new l) (append_assoc rows xs ys) (b.along (rows ++ xs) (a.along rows work));
 }
 
--- the filter alone went on
+-- only the filter went on
 pub along_then : (old mid new : Work) (before at : Option Files) (next : List (List ℕ)) → GoesAlong old before next mid at → GoesAlong mid at [] new at → GoesAlong old before next new at
 along_then old mid new before at next a b = subst (λ (l : List (List ℕ)). GoesAlong old before l new at) (append-nil next) (along_on old mid new before at at next [] a b)
 
@@ -89,7 +89,7 @@ fits_stay old new head same room fits =
       room = room ∙ fits.room ∙ sym width;
     }
 
--- One row more is read and taken.
+-- One more row was read and taken.
 module _ (old new : Work) (before now : Option Files) (row : List ℕ) (gives : GivesRow old.reader before row new.reader now) (goes : HasGone 1 0 old.filter new.filter)
     (room : length new.row.items ≡ length old.row.items) (wanted : old.filter.taken < min old.filter.height (old.filter.pairs + old.filter.radius + 1))
     (takes : (page : Gray) → Follows page old.filter → IsRow page old.filter.taken row → Follows page new.filter) where
@@ -128,7 +128,7 @@ module _ (old new : Work) (before now : Option Files) (row : List ℕ) (gives : 
 
 -- The filter goes on, and no row is read.
 
--- the page at work with this filter
+-- the page in progress with this filter
 abbrev pub with_filter : Work → Filtering → Work
 with_filter work g = record { head = work.head; reader = work.reader; filter = g; row = work.row }
 
@@ -152,19 +152,19 @@ module _ (work : Work) (g : Filtering) (files : Option Files) (same : SameSetup 
         };
   }
 
-  -- by a row of the page
+  -- after a step of the filter
   pub along_step : work.filter.taken ≡ min work.filter.height (work.filter.pairs + work.filter.radius + 1) → g.pairs ≡ work.filter.pairs + 1
       → GoesAlong work files [] (with_filter work g) files
   along_step ready pairs = gone_on (λ rows here. (omega (arith, ready, none, pairs, same.height, same.radius), λ some. omega (arith, ready, none, pairs, same.height, same.radius)))
 
-  -- to a row of the result
+  -- after the filter made a row of the result
   pub along_row : g.pairs ≡ work.filter.pairs → GoesAlong work files [] (with_filter work g) files
   along_row pairs = gone_on (λ rows here. (
     omega (arith, here.due, none, pairs, same.height, same.radius),
     λ some. let e = here.enough (omega (arith, some, pairs)) in omega (arith, e, none, pairs, same.height, same.radius),
   ))
 
--- What can be put.
+-- Which row can be written.
 
 module _ (Y : ℕ) (work : Work) (source : Source) (can : CanPut Y work source) where
   tall : 1 ≤ work.reader.head.height
@@ -180,12 +180,12 @@ module _ (Y : ℕ) (work : Work) (source : Source) (can : CanPut Y work source) 
       let here = can.at_work in
       omega (arith, need_here, unready, wanted, here.taken, here.given, here.fits.height)
 
-  -- and there is one
+  -- the page has a next row
   pub one_there : work.filter.taken < min work.filter.height (work.filter.pairs + work.filter.radius + 1) → work.reader.given < work.reader.head.height
   one_there wanted = let here = can.at_work in omega (arith, wanted, here.taken, here.given, here.fits.height)
 
   module _ (new : Work) (now : Source) (next : List (List ℕ)) (goes : GoesAlong work source.files next new now.files) where
-    -- row Y may still be put
+    -- row Y can still be written
     pub can_still : MayRead new.reader now → new.filter.pairs ≤ after_of work.filter.times Y + 1 → new.reader.given ≤ need_of (setup_of work.filter) (header_of work.reader) Y
         → CanPut Y new now
     can_still reading behind ahead = record {
@@ -197,7 +197,7 @@ module _ (Y : ℕ) (work : Work) (source : Source) (can : CanPut Y work source) 
       ahead = rw (same_need work new source.files now.files next goes Y) ahead;
     }
 
-    -- between the reliefs that row Y lies between, just the rows that it needs were read
+    -- if the filter has the reliefs between which row Y lies, exactly the rows that row Y needs were read
     pub gets_ready : CanPut Y new now → new.filter.pairs ≡ after_of new.filter.times Y + 1 → GetsReady Y work source.files new now.files
     gets_ready later ready =
         let here = later.at_work in
@@ -221,7 +221,7 @@ row_same work page Y width =
     let wide : f.width ≡ page.width = sym width in
     λ i. row_text (f.times * wide i) (padded (f.times * wide i) (λ X. is_black page f.radius f.times f.level X Y))
 
--- what the filter makes is row Y of each page that begins with the rows so far
+-- the filter makes row Y of each page that begins with the rows read until now
 pub row_is : (old new : Work) (before now : Option Files) (Y : ℕ) (rows next : List (List ℕ)) (page : Gray) (row : List ℕ) → GoesAlong old before next new now → IsAtWork old rows
     → HasFirstRows (header_of old.reader) (rows ++ next) page
     → ((page : Gray) → Follows page new.filter
@@ -232,7 +232,7 @@ row_is old new before now Y rows next page row goes work has makes =
     let follows = (goes.along rows work).follows page here in
     makes page follows ∙ row_same new page Y follows.holds.width ∙ ap (λ (s : Setup). result_row s page Y) goes.setup
 
--- both before the first row
+-- the reader and the filter are before the first row
 pub work_start : (setup : Setup) (work : Work) → work.filter.width ≡ work.reader.head.width → work.filter.height ≡ work.reader.head.height → work.filter.maxval ≡ work.reader.head.maxval
     → setup_of work.filter ≡ setup → work.filter.taken ≡ 0 → work.filter.pairs ≡ 0 → work.reader.given ≡ 0 → work.reader.failed ≡ false → CanFilter setup → IsGrayHead work.reader.head
     → length work.row.items ≡ work.reader.head.width

@@ -1,4 +1,4 @@
--- Rows of the result, one below another.
+-- The rows of the result for which n rows of a page suffice are those above the first row that needs more.
 use Rattle.std.proofs.Common.{◌≡◌, ℕ, zero, suc, ◌+◌, ◌-◌, ◌≤◌, ◌<◌, Bool, true, false, List, [], ◌++◌, length, take, refl, ap, sym, ◌∙◌, arith, nat_lt, if◌then◌else◌, append_assoc, append-nil, length-append}
 use Rattle.std.proofs.lemmas.List.{take-append-le}
 use Rattle.std.proofs.Math.Seq.{take-append-add}
@@ -19,7 +19,7 @@ module _ (setup : Setup) (page : Gray) (some : 1 ≤ setup.times) (tall : 1 ≤ 
   abbrev needs : ℕ → ℕ
   needs Y = need page.height setup.radius setup.times Y
 
-  -- with one row more
+  -- the rows of the result with one more row
   pub rows_next : (n Y : ℕ) → needs Y < n → result_rows setup page n (suc Y) ≡ result_rows setup page n Y ++ result_row setup page Y
   rows_next n Y enough = ap (λ (b : Bool). result_rows setup page n Y ++ (if b then result_row setup page Y else [])) (lt_true (needs Y) n enough)
 
@@ -30,13 +30,13 @@ module _ (setup : Setup) (page : Gray) (some : 1 ≤ setup.times) (tall : 1 ≤ 
   pub above_next : (Y : ℕ) → rows_above setup page (suc Y) ≡ rows_above setup page Y ++ result_row setup page Y
   above_next Y = rows_next page.height Y (need-ends page.height setup.radius setup.times Y some tall)
 
-  -- all rows above one that needs enough are there
+  -- all rows above row Y are there if n rows suffice for each of them
   pub all_above : (n Y : ℕ) → ((y : ℕ) → y < Y → needs y < n) → result_rows setup page n Y ≡ rows_above setup page Y
   all_above n zero enough = refl
   all_above n (suc Y) enough = rows_next n Y (enough Y (omega arith)) ∙ ap (λ (l : List ℕ). l ++ result_row setup page Y) (all_above n Y (λ y within. enough y (omega (arith, within))))
       ∙ sym (above_next Y)
 
-  -- and none from one on that needs more
+  -- no row is there from row Y on if row Y needs more
   none_below : (n Y k : ℕ) → n ≤ needs Y → result_rows setup page n (Y + k) ≡ result_rows setup page n Y
   none_below n Y zero few = let e : Y + 0 ≡ Y = omega arith in ap (result_rows setup page n) e
   none_below n Y (suc k) few =
@@ -44,7 +44,7 @@ module _ (setup : Setup) (page : Gray) (some : 1 ≤ setup.times) (tall : 1 ≤ 
       let later : needs Y ≤ needs (Y + k) = need-rises page.height setup.radius setup.times Y (Y + k) some tall (omega arith) in
       ap (result_rows setup page n) e ∙ rows_stay n (Y + k) (omega (arith, few, later)) ∙ none_below n Y k few
 
-  -- so the rows that n rows of the page are enough for are those above the first one that needs more
+  -- the rows for which n rows of the page suffice are those above the first row that needs more
   pub rows_end : (n Y end : ℕ) → Y ≤ end → ((y : ℕ) → y < Y → needs y < n) → n ≤ needs Y → result_rows setup page n end ≡ rows_above setup page Y
   rows_end n Y end within enough few =
       let e : end ≡ Y + (end - Y) = omega (arith, within) in
@@ -59,7 +59,7 @@ module _ (setup : Setup) (page : Gray) (some : 1 ≤ setup.times) (tall : 1 ≤ 
       let one : List ℕ = if nat_lt (needs (Y + k)) n then result_row setup page (Y + k) else [] in
       (rest ++ one, ap (result_rows setup page n) e ∙ ap (λ (l : List ℕ). l ++ one) is ∙ append_assoc (result_rows setup page n Y) rest one)
 
-  -- a front of a row behind those above it, as a front of all
+  -- a prefix of a row, after the rows above it, is a prefix of all rows
   pub front_is : (head : List ℕ) (n Y end m : ℕ) → Y < end → ((y : ℕ) → y < suc Y → needs y < n) → m ≤ length (result_row setup page Y)
       → (k : ℕ) × (k ≤ length (head ++ result_rows setup page n end))
       × (take k (head ++ result_rows setup page n end) ≡ head ++ (rows_above setup page Y ++ take m (result_row setup page Y)))

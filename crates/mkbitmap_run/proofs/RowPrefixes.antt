@@ -1,4 +1,4 @@
--- Rows that stand at the front of bytes.
+-- The rows with which bytes begin, and how many bytes were read after them.
 use Rattle.std.proofs.Common.{◌≡◌, ℕ, zero, suc, ◌+◌, ◌≤◌, ◌⊎◌, inl, inr, Bool, true, false, List, [], ◌∷◌, ◌++◌, length, refl, ap, sym, ◌∙◌, subst, arith, append_assoc}
 use Rattle.std.proofs.lemmas.List.{append-nil}
 use Rattle.bitmap_input.specs.Cut.{Cut, is_by_end}
@@ -12,7 +12,7 @@ none_more : {A : Type 0} (cut : Cut A) → with_more [] cut ≡ cut
 none_more (Takes e x rest) = ap (Takes e x) (append-nil rest)
 none_more (Stops e ending) = refl
 
--- a cut is the same in front of what may still come
+-- a part that was read stays the same if more bytes come, unless the end decided it
 pub cut_stays : {A : Type 0} (part : List ℕ → Cut A) → Stays part → (bytes tail : List ℕ) (cut : Cut A) (ended : Bool) → part bytes ≡ cut
     → (is_by_end cut ≡ true → ended ≡ true) → (ended ≡ true → tail ≡ []) → part (bytes ++ tail) ≡ with_more tail cut
 cut_stays part stays bytes tail cut ended is settled none = by (is_by_end cut) refl
@@ -35,7 +35,7 @@ leaves_on e part bytes mid left [] ys same next = subst (λ (l : List ℕ). Leav
 leaves_on e part bytes mid left (x ∷ xs) ys (by_end, rest, is, may, behind) next =
     (by_end, rest, is, may, leaves_on e part rest mid left xs ys behind next)
 
--- the rows that stand there begin with these
+-- the rows with which the bytes begin are these rows and those after them
 pub standing_is : (e : Bool) (part : List ℕ → Cut (List ℕ)) (bytes : List ℕ) (rows : List (List ℕ)) (left : List ℕ) (n k : ℕ) → n ≡ length rows + k
     → LeavesRows e part bytes rows left → standing part n bytes ≡ rows ++ standing part k left
 standing_is e part bytes [] left n k many same =
@@ -60,12 +60,12 @@ stopped behind (Takes true row rest) end = refl
 stopped behind (Takes false row rest) end = absurd (not_true end)
 stopped behind (Stops e why) end = refl
 
--- no row stands there that is by the end
+-- no row is settled if the end of the bytes decides the first one
 pub none_settled : (part : List ℕ → Cut (List ℕ)) (bytes : List ℕ) (k : ℕ) → is_by_end (part bytes) ≡ true → settled_rows part k bytes ≡ []
 none_settled part bytes zero end = refl
 none_settled part bytes (suc k) end = stopped (λ (l : List ℕ). settled_rows part k l) (part bytes) end
 
--- bytes that were needed behind those at hand, of which there were no more than a block has
+-- bytes that were needed after those at hand, which were at most a block
 pub near_of : {A : Type 0} (part : List ℕ → Cut A) (held more : List ℕ) → length held ≤ 65536 → AreNeeded (λ bytes. part (held ++ bytes)) more → ReachesNear part (held ++ more)
 near_of part held more few needed = by needed.undecided
   where
@@ -85,7 +85,7 @@ near_of part held more few needed = by needed.undecided
       near = needed.within;
     }
 
--- what decides one part decides another
+-- two parts that are decided by the same bytes
 pub near_by : {A B : Type 0} (part : List ℕ → Cut A) (other : List ℕ → Cut B) (bytes : List ℕ) → ((bytes : List ℕ) → is_by_end (other bytes) ≡ is_by_end (part bytes))
     → ReachesNear part bytes → ReachesNear other bytes
 near_by part other bytes same near = record { front = near.front; block = near.block; split = near.split; undecided = by near.undecided; near = near.near }

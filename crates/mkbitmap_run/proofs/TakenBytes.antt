@@ -1,11 +1,11 @@
--- What was taken of standard input, and what it holds.
+-- What follows for standard input from the bytes that were read of it.
 use Rattle.std.proofs.Common.{◌≡◌, ℕ, Bool, true, List, [], ◌++◌, length, take, drop, refl, ap, sym, ◌∙◌, subst, Option, None, Some, append_assoc}
 use Rattle.std.proofs.lemmas.List.{take-append-drop}
 use Rattle.pt_core.specs.Files.{Files, with_read}
 use Rattle.bitmap_input.specs.Reading.{AtEnd, Moves}
 use Rattle.small_program.specs.Input.{HasInput, HasTaken}
 
--- more was taken
+-- further bytes were read
 pub taken_on : (start before now : Option Files) (taken more : List ℕ) (ended ended_now : Bool) → HasTaken start before taken → Moves ended before ended_now now more
     → HasTaken start now (taken ++ more)
 taken_on None before now taken more ended ended_now has moves = moves.files ∙ ap (λ (f : Option Files). with_read f (length more)) has
@@ -17,7 +17,7 @@ taken_on (Some files) before now taken more ended ended_now (rest, is, same) mov
       moves.files ∙ ap (λ (f : Option Files). with_read f (length more)) same,
     )
 
--- all of it is what was taken and what is unread, which is nothing where the end was reached
+-- standard input is the bytes that were read and the unread ones; there are no unread ones at the end
 pub all_of_taken : (start now : Option Files) (taken : List ℕ) (ended : Bool) → HasTaken start now taken → (ended ≡ true → AtEnd now)
     → (more : List ℕ) × HasInput start (taken ++ more) × (ended ≡ true → more ≡ [])
 all_of_taken None now taken ended has at_end = ([], tt, λ _. refl)

@@ -20,7 +20,7 @@ returns-in_default g c =
     (run_out_of_memory c.args.setup (source_of g.I.Inputs c.args.inputs.now) (source_of g.I.Inputs c.open.new.self) _ _ c.open.ensures.one_more c.in-Ok.ensures.steady
     (λ lacks. let never = c.in-Ok.ensures.absent.1 lacks in cc) (record { same = refl; same_open = refl; says = c.say_out_of_memory.ensures.says }))
 
--- the head was read
+-- the header was read
 pub returns-in-Ok-read_head : goal.returns-in-Ok-read_head
 returns-in-Ok-read_head g c =
     c.filter_page.ensures (source_of g.I.Inputs c.args.inputs.now)
@@ -28,7 +28,7 @@ returns-in-Ok-read_head g c =
     c.open.ensures.one_more c.in-Ok.ensures.steady (nothing_taken _ _ c.in-Ok.ensures.file (λ lacks. let never = c.in-Ok.ensures.absent.1 lacks in cc)) c.read_head.ensures.stays
     c.in-Ok-read_head.ensures.reads c.in-Ok-read_head.ensures.gives)
 
--- it isn't there
+-- the header couldn't be read
 pub returns-in-Err-read_head : goal.returns-in-Err-read_head
 returns-in-Err-read_head g c =
     rw c.say_fault.ensures.ending

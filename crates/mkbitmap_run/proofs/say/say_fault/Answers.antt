@@ -14,7 +14,7 @@ returns-in-NoMemory-clause-says g c =
     subst (λ (l : List ℕ). IsMessage (page_says l) (told_of g.E.Sink c.args.errs.now) (told_of g.E.Sink c.say_of_file_page.new.errs)) c.text.ensures
     c.say_of_file_page.ensures.says
 
--- what is refused is no read fault
+-- a refusal isn't a read fault
 pub returns-in_default : goal.returns-in_default
 returns-in_default g c = record {
   ending = refused_cause c.args.fault c.in_default.not-ReadFault c.in_default.not-NoMemory;

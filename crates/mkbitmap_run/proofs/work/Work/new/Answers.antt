@@ -5,7 +5,7 @@ use Rattle.mkbitmap_run.specs.Inner.FilterWork.{IsGrayHead, setup_of}
 use Rattle.mkbitmap_run.proofs.PageWork.{work_start}
 use Rattle.mkbitmap_run.proofs.work.Work.new.Goals as goal
 
--- both are before the first row
+-- the reader and the filter are before the first row
 pub returns : goal.returns
 returns c =
     let made = c.in_ok-filter.ensures in
