@@ -1,4 +1,4 @@
--- The first file of a name, found from place to place.
+-- The first file with a name is found by looking at one index after the other.
 use Rattle.std.proofs.Common.{◌≡◌, ◌<◌, ◌≤◌, ℕ, zero, suc, ◌+◌, Bool, true, false, cond, List, [], ◌∷◌, length, map, drop, get_or, Option, None, Some, is_some, option_map, IfSome, min, take, refl, sym, ◌∙◌, ap, drop-cons, drop-drop, add-one, arith}
 use Rattle.std.specs.Ordering.{nat_cmp}
 use Rattle.std.specs.Str.{bytes_eq}
@@ -14,7 +14,7 @@ use Rattle.pt_core.specs.Files.{Opened, IsFront, file_at, taken_of}
 use Rattle.mem_outside.specs.MemInputs.{name_of, entry_of, contents_of, opened_at, opened_of, bytes_at}
 use Rattle.mem_outside.specs.declared.mem_inputs.NamedBytes.{NamedBytes}
 
--- the bytes of the first file of a name
+-- the bytes of the first file with a name
 abbrev pub found : List ℕ → List NamedBytes → Option (List ℕ)
 found name files = find (slice_cmp nat_cmp) name (map entry_of files)
 
@@ -33,14 +33,14 @@ found-drop file files i name b within is e =
     ap (found name) (drop-cons files i file within ∙ ap (λ f. f ∷ drop (suc i) files) (sym is))
     ∙ found-cons file (drop (suc i) files) name b e
 
--- the name isn't at place i, so it is found further on, if at all
+-- the file at index i has another name, so the name is found at a later index or not at all
 pub found_on : (file : NamedBytes) (files : List NamedBytes) (i : ℕ) (name : List ℕ) → i < length files
     → file ≡ get_or files i file → bytes_eq name (name_of file) ≡ false
     → found name (drop i files) ≡ found name files → found name (drop (i + 1) files) ≡ found name files
 found_on file files i name within is e so_far =
     rw add-one (sym (found-drop file files i name false within is e) ∙ so_far)
 
--- the name is at place i, and at none before
+-- the file at index i has the name, and no earlier one does
 pub found_here : (file : NamedBytes) (files : List NamedBytes) (i : ℕ) (name : List ℕ) → i < length files
     → file ≡ get_or files i file → bytes_eq name (name_of file) ≡ true
     → found name (drop i files) ≡ found name files → get (contents_of files) name ≡ Some file.bytes.items
@@ -60,7 +60,7 @@ bytes_at-place file [] i within is = absurd (omega arith)
 bytes_at-place file (f ∷ files) zero within is = ap (λ g. g.bytes.items) (sym is)
 bytes_at-place file (f ∷ files) (suc i) within is = bytes_at-place file files i (omega arith) is
 
--- after n more bytes, the file is opened further on
+-- the open file after n more bytes were read
 pub opened_on : (files : List NamedBytes) (i offset n : ℕ)
     → option_map (taken_of n) (opened_at files i offset) ≡ opened_at files i (offset + n)
 opened_on [] i offset n = refl
@@ -76,13 +76,13 @@ opened_here file files i name within is e so_far =
     ∙ ap (λ n. Some (record { name = n; rest = file.bytes.items })) (sym same)
     ∙ ap (option_map (λ (bytes : List ℕ). record { name = name; rest = bytes })) (sym (found_here file files i name within is e so_far))
 
--- the name is nowhere
+-- no file has the name
 pub found_none : (files : List NamedBytes) (i : ℕ) (name : List ℕ) → length files ≤ i
     → found name (drop i files) ≡ found name files → get (contents_of files) name ≡ None
 found_none files i name end so_far =
     get-contents_of files name ∙ sym so_far ∙ ap (found name) (drop_of_length-le files end)
 
--- what was copied is a front of the rest
+-- the bytes that were copied are a prefix of the rest
 pub given : (rest buf : List ℕ) (n most : ℕ) → 1 ≤ most → n ≡ min (length rest) (min most (length buf)) → take n buf ≡ take n rest
     → (n ≡ min (length rest) (min most (length buf))) × IsFront rest n buf
 given rest buf n most some count same = (

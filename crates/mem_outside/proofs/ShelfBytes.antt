@@ -1,4 +1,4 @@
--- What stands on a shelf stays as it is while bytes are appended to the buffer.
+-- Appending bytes to the buffer leaves the documents on a shelf as they are.
 use Rattle.std.proofs.Common.{◌≡◌, ◌≤◌, ℕ, ◌+◌, ◌-◌, Bool, true, false, List, [], ◌∷◌, ◌++◌, length, map, take, drop, All, Option, None, Some, is_some, refl, ◌∙◌, ap, suc, length-append, length-drop, arith}
 use Rattle.std.proofs.Math.Seq.{take-length, drop-append_seam, drop-length}
 use Rattle.std.proofs.lemmas.List.{take-append-le, drop-append-le}
@@ -6,7 +6,7 @@ use Rattle.pt_core.specs.Documents.{Document, grown}
 use Rattle.mem_outside.specs.Shelf.{ShelfState, document_at, open_at, IsWithin, shelf_of, count_with}
 use Rattle.mem_outside.specs.declared.shelf.ShelfPlace.{ShelfPlace}
 
--- a part of the front stays
+-- a part of the first bytes stays the same
 part_stays : (n m : ℕ) (bytes more : List ℕ) → n ≤ m → m ≤ length bytes → take (m - n) (drop n (bytes ++ more)) ≡ take (m - n) (drop n bytes)
 part_stays n m bytes more before within =
     let n_within : n ≤ length bytes = omega arith in
