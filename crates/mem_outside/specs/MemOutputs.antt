@@ -6,7 +6,7 @@ use Rattle.mem_outside.specs.declared.mem_outputs.OutCall.{OutCall}
 use Rattle.mem_outside.specs.declared.mem_outputs.OutCall.TheVariants.{Begin, Write, End}
 
 -- the documents, how many more can be added, the free bytes for names and texts, the most bytes that a write takes, the
--- calls that are to fail, the numbers of calls and of faults until now, and whether the last call failed
+-- calls that are to fail, the numbers of calls and faults, and whether the last call failed
 pub record OutputsState : Type 0 where
   pub documents : Documents
   pub free_documents : ℕ

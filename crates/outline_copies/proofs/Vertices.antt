@@ -72,7 +72,7 @@ moved_line right up s p line is =
       along = λ i. record { nx = (is.along i).nx; ny = (is.along i).ny; cx = x i; cy = y i };
     }
 
--- a moved point is as far from a moved line as before
+-- a moved point has the same distance from a moved line as before
 from_centre : (v move c shift : ℤ) → (pos 1024 *ℤ (v +ℤ move) +ℤ shift) -ℤ (c +ℤ pos 1024 *ℤ move) ≡ (pos 1024 *ℤ v +ℤ shift) -ℤ c
 from_centre v move c shift = omega (arith, ints)
 
