@@ -22,7 +22,8 @@ pub enum InCall {
     Read(u64),
 }
 
-/// Inputs in memory. Each listed `read` fails, and each listed `open` of an existing name; no other call does.
+/// Inputs in memory. A device fault occurs exactly at each listed `read`, and at each listed `open` of an existing
+/// name. An `open` of another name reports that the file is missing.
 #[derive(Debug, Drop)]
 pub struct MemInputs {
     files: Vec<NamedBytes>,

@@ -1,5 +1,6 @@
-//! Reliefs: how far the samples of a row differ from the means of the boxes around them. A relief is in units of 1/256
-//! of a sample. A raised relief has 256 times white added, so that it isn't negative.
+//! Reliefs: how far the samples of a row differ from the means of the boxes around them. A relief is the difference
+//! plus half of white, in units of 1/256 of a sample. A raised relief has half of white added once more, so that it
+//! isn't negative.
 ghost use Rattle.std.specs.Prelude.{◌≡◌, ℕ, ◌+◌, ◌-◌, ◌*◌, ◌≤◌, ◌<◌, length, get_or, if◌then◌else◌, nat_eq};
 ghost use Rattle.mkbitmap.specs.Box.{sum_between, box_from, box_end, box_count};
 ghost use Rattle.mkbitmap.specs.Relief.{raised_by};

@@ -1,5 +1,5 @@
 -- The command as `clap` reads it: options that may be given once, and any number of file names (the potrace manual
--- page, with `--cyclic` and `--flat` added).
+-- page); `--cyclic` and `--flat` are options too.
 use Rattle.std.specs.Prelude.{ℕ, true, List, [], ◌∷◌, Option, None, Some, codes}
 use Rattle.clap.specs.Walk.{Row, Rule}
 use Rattle.clap.specs.Simple.{App, matches_of, new_app, new_rule, with_rule}

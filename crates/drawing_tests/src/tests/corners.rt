@@ -21,8 +21,8 @@ fn square(side: i32) -> [Place; 4] {
     [(0, side), (0, 0), (side, 0), (side, side)]
 }
 
-/// The pieces of the outline of such a square. `near` and `far` are the positions of the first and the second control
-/// point, measured from the corner.
+/// The pieces of the outline of such a square. `near` and `far` are the coordinates of the two control points along a
+/// side.
 fn round_square(side: i32, near: i32, far: i32, al: u32) -> [Row; 4] {
     let half = side / 2;
     [

@@ -29,8 +29,8 @@ header_of reader = record { plain = reader.plain; width = reader.head.width; hei
 abbrev pub setup_of : Filtering → Setup
 setup_of f = record { radius = f.radius; times = f.times; level = f.level }
 
--- rows of the open file may be read: after a read at the end of the file no byte is left, and the reader holds at most
--- 65,536 bytes
+-- rows of the open file may be read: if the reader has found the end of the file, no byte is left, and the reader holds
+-- at most 65,536 bytes
 pub record MayRead (reader : GraySource) (source : Source) : Type 0 where
   pub opened : source.is_opened ≡ true
   pub at_end : reader.ended ≡ true → AtEnd source.files
