@@ -42,6 +42,7 @@ impl Model for Shelf {
 }
 
 impl Shelf {
+    /// An empty shelf with a capacity of this number of documents and bytes. All its memory is allocated here.
     pub fn new(alloc: Global, documents: u32, bytes: u32) -> Result<Shelf, NoMemory>
         ensures { IfOk result (λ shelf. shelf
             ≡ record { documents = no_documents; free_documents = documents; free_bytes = bytes }) }

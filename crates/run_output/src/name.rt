@@ -19,6 +19,7 @@ impl Model for Name {
 }
 
 impl Name {
+    /// Copies a text as a name.
     pub fn from_str(alloc: Global, text: &str) -> Result<Name, AllocError>
         ensures { IfOk result (λ name. name ≡ text.now) }
     {
@@ -26,6 +27,7 @@ impl Name {
         Ok(Name { text })
     }
 
+    /// The name as a text.
     pub fn as_str(&self) -> &str
         ensures { result.now ≡ self.now }
     {
@@ -48,6 +50,7 @@ impl Model for Names {
 }
 
 impl Names {
+    /// An empty list.
     pub fn new(alloc: Global) -> Names
         ensures { result ≡ [] }
     {
@@ -65,6 +68,7 @@ impl Names {
         Ok(())
     }
 
+    /// The names in order.
     pub fn as_slice(&self) -> &[Name]
         ensures { result.now ≡ self.now }
     {
