@@ -1,4 +1,5 @@
--- The pages of the demo: 40 rectangles and then 4 slanted bars on a white page. Each one inverts its pixels.
+-- The pages of the demo: 40 rectangles and then 4 slanted bars on a white page. Each rectangle and each bar inverts its
+-- pixels.
 use Rattle.std.specs.Prelude.{ℕ, zero, suc, ◌+◌, ◌-◌, ◌*◌, ◌/◌, ◌%◌, Bool, ◌&&◌, List, [], ◌∷◌}
 use Rattle.bit_image.specs.Image.{Image, differ, white, within}
 use Rattle.bit_image.specs.Page.{Page, page_of}

@@ -1,7 +1,7 @@
 //! Makes the pages of the demo from a number alone.
 //!
 //! A generator starts from the number of pages. Each page is made from its next numbers: 40 rectangles and then 4
-//! slanted bars. Each one inverts its pixels.
+//! slanted bars. Each rectangle and each bar inverts its pixels.
 //!
 //! ```text
 //!                                                                # #

@@ -10,7 +10,8 @@ use pt_core::{Group, NoMemory, Piece, Point, Sequence, Trace, pieces_at, write_t
 use std::alloc::Global;
 
 /// The document of a page's trace: a polygon for each shape. The polygon's first ring is the shape's outline, and its
-/// other rings are the holes in reverse direction. Without shapes it is the two lines of an empty collection.
+/// other rings are the holes in reverse direction. If there are no shapes, the document is the two lines of an empty
+/// collection.
 ///
 /// Coordinates are in pixels, rounded to thousandths. A group's path without an outline in the trace is written as an
 /// outline of no pieces.
