@@ -1,4 +1,5 @@
--- The area of a run: how large it is, and how those between the origin and the first pieces tell it.
+-- The area of a run is small, and it is the difference of two prefix sums less the triangle of the origin and the
+-- chord.
 use Rattle.std.proofs.Common.{◌≡◌, ℕ, zero, suc, ◌+◌, ◌-◌, ◌*◌, ◌<◌, ◌≤◌, ◌^◌, ◌%◌, ℤ, pos, ◌+ℤ◌, ◌-ℤ◌, ◌*ℤ◌, List, [], ◌∷◌, length, get_or, take, drop, length-drop, sym, ap, subst, ◌∙◌, to_z, of_z, refl, arith}
 use Rattle.std.proofs.Math.Nat.{add-mod_right}
 use Rattle.std.proofs.lemmas.Int.{ints, fits_signed_from_abs}
@@ -15,10 +16,10 @@ use Rattle.pt_core.specs.ClosedWalk.{origin}
 use Rattle.pt_core.specs.Outlines.{end_of}
 use Rattle.pt_core.specs.declared.piece.Piece.TheVariants.{Corner}
 use Rattle.pt_core.specs.declared.point.Point.{Point}
-use Rattle.curve_join.proofs.Cutting.{bends_at, length-bends_of, slice_at}
-use Rattle.curve_join.proofs.Fitting.{cross_most, difference_most, long_back, product_most, sum_most, within_far}
+use Rattle.curve_join.proofs.Cuts.{bends_at, length-bends_of, slice_at}
+use Rattle.curve_join.proofs.Widths.{cross_most, difference_most, long_back, product_most, sum_most, within_far}
 use Rattle.curve_join.proofs.Meetings.{way_within}
-use Rattle.curve_join.proofs.Running.{total_more}
+use Rattle.curve_join.proofs.RunSums.{total_more}
 use Rattle.curve_join.specs.Inner.Areas.{AreLinked, area_up_to, areas_of}
 use Rattle.curve_join.specs.Inner.Bends.{IsWorkable}
 use Rattle.curve_join.specs.Bends.{bends_of}
@@ -27,7 +28,7 @@ use Rattle.curve_join.specs.Outline.{Outline}
 use Rattle.curve_join.specs.Vector.{IsPlaced, vector_cross, way_of}
 use Rattle.curve_join.specs.declared.bend.Bend.{Bend}
 
--- how large a share is, and the sum of several
+-- the size of one share of an area, and of a sum of shares
 pub share_small : (start : Point) → IsPlaced (2 ^ 26) start → (b : Bend) → IsWorkable b → unsigned_abs (area_from start b) ≤ 22 * 2 ^ 58
 share_small start placed b small =
     let v = way_of start b.start in
@@ -60,7 +61,7 @@ pub up_to_most : (bends : List Bend) (k : ℕ) → All IsWorkable bends → leng
 up_to_most bends k small most =
     omega (arith, area_most origin at_origin (take k bends) (All-take IsWorkable k bends small) (2 ^ 31) (omega (arith, length-take k bends)))
 
--- the difference of two areas, in 128 bits
+-- the difference of two areas fits in 128 bits
 module _ (a b : ℤ) (ha : unsigned_abs a ≤ 2 ^ 100) (hb : unsigned_abs b ≤ 2 ^ 100) where
   difference_small : unsigned_abs (a -ℤ b) ≤ 2 ^ 101
   difference_small = omega (arith, difference_most a b (2 ^ 100) (2 ^ 100) ha hb)
@@ -71,7 +72,7 @@ module _ (a b : ℤ) (ha : unsigned_abs a ≤ 2 ^ 100) (hb : unsigned_abs b ≤ 
   pub difference_fits : FitsSigned w128 (to_z w128 (of_z w128 a) -ℤ to_z w128 (of_z w128 b))
   difference_fits = (let small = difference_small in rw (long_back a (omega arith), long_back b (omega arith)) (fits_signed_from_abs w128 (a -ℤ b) (omega arith)))
 
--- the area so far, and the next share
+-- the area of the first i bends, with the share of the next bend, fits in 128 bits
 module _ (start : Point) (placed : IsPlaced (2 ^ 26) start) (run : List Bend) (small : All IsWorkable run) (most : length run ≤ 2 ^ 31) (i : ℕ) (d : Bend) (h : i < length run)
     (t x : ℤ) (et : t ≡ total_area start (take i run)) (ex : x ≡ area_from start (get_or run i d)) where
   before_small : unsigned_abs t ≤ 2 ^ 94
@@ -95,7 +96,7 @@ module _ (start : Point) (placed : IsPlaced (2 ^ 26) start) (run : List Bend) (s
   pub area_fits : FitsSigned w128 (t +ℤ to_z w128 (of_z w128 x))
   area_fits = rw next_back (fits_signed_from_abs w128 (t +ℤ x) sum_small)
 
--- the cross product of the ways from one place, by those from the origin
+-- the cross product of two ways from one point, by the ways from the origin
 cross_from : Point → Point → Point → Term
 cross_from p a b =
     less
@@ -111,7 +112,7 @@ crossed p a b =
 with_itself : (p : Point) → vector_cross (way_of origin p) (way_of origin p) ≡ pos 0
 with_itself p = omega (arith, ints)
 
--- the sum of one more piece
+-- the difference of prefix sums after one more piece
 longer : (t before first after area x y z : ℤ) → t ≡ (before -ℤ first) -ℤ pos 10 *ℤ y → after ≡ before +ℤ (area +ℤ pos 10 *ℤ z)
     → t +ℤ (area +ℤ pos 10 *ℤ ((z -ℤ x) +ℤ y)) ≡ (after -ℤ first) -ℤ pos 10 *ℤ x
 longer t before first after area x y z is next = omega (arith, ints)
@@ -126,9 +127,9 @@ more p b t before first after is next =
 none_yet : (a z : ℤ) → z ≡ pos 0 → pos 0 ≡ (a -ℤ a) -ℤ pos 10 *ℤ z
 none_yet a z e = omega (arith, ints)
 
--- the area of pieces from number i on
+-- the area of the pieces from index i on
 module _ (bends : List Bend) (linked : AreLinked bends) (i : ℕ) (p : Point) (here : (get_or bends i no_bend).start ≡ p) where
-  -- that of the areas from the origin, where the curve goes on to this place
+  -- that area by prefix sums, if the run ends at this point
   abbrev told : ℕ → Point → ℤ
   told k place = (area_up_to bends k -ℤ area_up_to bends i) -ℤ pos 10 *ℤ vector_cross (way_of origin p) (way_of origin place)
 
@@ -164,7 +165,7 @@ module _ (bends : List Bend) (linked : AreLinked bends) (i : ℕ) (p : Point) (h
       let Q : ℕ → Type 0 = λ n. total_area p (take (j - 1 - i + 1) (drop i bends)) ≡ told n (get_or bends (j - 1) no_bend).end in
       subst P count (subst Q last all)
 
--- the area of a run
+-- the area of a run by prefix sums
 pub area_told : (bends : List Bend) → AreLinked bends → (i j : ℕ) → i < j → j ≤ length bends → area_at (slice_range bends i j)
     ≡ (area_up_to bends j -ℤ area_up_to bends i)
     -ℤ pos 10 *ℤ vector_cross (way_of origin (get_or bends i no_bend).start) (way_of origin (get_or bends (j - 1) no_bend).end)
@@ -173,7 +174,7 @@ area_told bends linked i j above within =
     slice_at bends i j 0 no_bend (omega arith) ∙ ap (λ n. get_or bends n no_bend) (omega arith) in
     ap (λ b. total_area b.start (slice_range bends i j)) first ∙ area_of_slice bends linked i (get_or bends i no_bend).start refl j above within
 
--- the areas that were written down
+-- the list of prefix sums has one more entry than there are bends, and each entry is the sum it should be
 pub areas_length : (bends : List Bend) (areas : List ℤ) → areas ≡ areas_of bends → length areas ≡ length bends + 1
 areas_length bends areas is = ap length is ∙ length-map-range_with_len (area_up_to bends) 0 (length bends + 1)
 
@@ -214,7 +215,7 @@ module _ (bends : List Bend) (linked : AreLinked bends) (small : All IsWorkable 
       ∙ sym (area_told bends linked i j above within)
       )
 
--- the pieces of an outline follow one another
+-- each piece of an outline starts at the end of the one before
 pub linked_there : (o : Outline) → 2 ≤ length o.pieces → AreLinked (bends_of o)
 linked_there o some k h =
     let all = length-bends_of o in

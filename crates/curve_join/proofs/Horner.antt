@@ -1,4 +1,4 @@
--- A coordinate of a curve as a polynomial.
+-- A coordinate of a curve is the value of its polynomial, and Horner's rule computes it in 64 bits.
 use Rattle.std.proofs.Common.{◌≡◌, ℕ, ◌+◌, ◌-◌, ◌*◌, ◌<◌, ◌≤◌, ◌^◌, ℤ, pos, ◌+ℤ◌, ◌-ℤ◌, ◌*ℤ◌, w64, refl, ap, subst, to_z, of_z, w32, ◌∙◌, arith}
 use Rattle.std.proofs.lemmas.Int.{ints, fits_signed_from_abs}
 use Rattle.std.specs.Prelude.{unsigned_abs}
@@ -9,10 +9,10 @@ use Rattle.pt_core.specs.Floor.{floor_of}
 use Rattle.curve_join.specs.Cubic.{cubic}
 use Rattle.curve_join.specs.Inner.Powers.{ArePowersOf, AreSmallPowers, power_sum}
 use Rattle.curve_join.specs.declared.stand_in.Powers.{Powers}
-use Rattle.curve_join.proofs.Fitting.{again, back, product_most, size_back, sum_most}
-use Rattle.curve_join.proofs.Mixing.{WeightedTerm, four_most, part_most, short_back, weights}
+use Rattle.curve_join.proofs.Widths.{again, back, product_most, size_back, sum_most}
+use Rattle.curve_join.proofs.WeightedSums.{WeightedTerm, four_most, part_most, short_back, weights}
 
--- Horner's rule multiplied out
+-- Horner's rule, multiplied out
 module _ (u : ℕ) where
   one_step : (x s : ℤ) → (x *ℤ pos u +ℤ s) *ℤ pos u ≡ pos (u * u) *ℤ x +ℤ pos u *ℤ s
   one_step x s =
@@ -31,7 +31,7 @@ module _ (u : ℕ) where
 regrouped : (n m : ℕ) (z : ℤ) → pos m *ℤ (pos n *ℤ z) ≡ pos (n * m) *ℤ z
 regrouped n m z = same_value (times (num (pos m)) (times (num (pos n)) (num z))) (times (num (pos (n * m))) (num z)) (omega arith)
 
--- the polynomial and the weighted sum of the curve's places, where u and r together are the whole
+-- the polynomial is the weighted sum of the coordinates of the curve's four points, if u + r is 64
 abbrev way_term : ℤ → ℤ → Term
 way_term from to = less (num to) (num from)
 
@@ -53,7 +53,7 @@ polynomial_is u r a b c d =
     (sum_of_parts (part_term (r * r * r) (num a)) (part_term (3 * u * r * r) (num b)) (part_term (3 * u * u * r) (num c)) (part_term (u * u * u) (num d)))
     (omega arith)
 
--- by the same coefficients it is the same sum
+-- equal coefficients give equal sums
 same_sum : (k s l o k' s' l' o' x : ℤ) → k ≡ k' → s ≡ s' → l ≡ l' → o ≡ o'
     → ((k *ℤ x +ℤ s) *ℤ x +ℤ l) *ℤ x +ℤ o ≡ ((k' *ℤ x +ℤ s') *ℤ x +ℤ l') *ℤ x +ℤ o'
 same_sum k s l o k' s' l' o' x ek es el eo = cc
@@ -78,7 +78,7 @@ module _ (u : ℕ) (few : u ≤ 64) (a b c d : ℤ) where
       ∙ regrouped_all _ _ _ _
       ∙ subst (λ n. polynomial_by n ≡ cubic u a b c d) (rest_is u few) (polynomial_is u (64 - u) a b c d)
 
-  -- it is small where the curve's places are
+  -- the value is small if the coordinates of the curve's points are
   abbrev place_term : (n : ℕ) (z : ℤ) → unsigned_abs z ≤ 2 ^ 29 → WeightedTerm (2 ^ 29)
   place_term n z h = record { weight = n; number = z; product = pos n *ℤ z; is = refl; share = part_most n (2 ^ 29) z h }
 
@@ -89,7 +89,7 @@ module _ (u : ℕ) (few : u ≤ 64) (a b c d : ℤ) where
       (place_term ((64 - u) * (64 - u) * (64 - u)) a ha) (place_term (3 * u * (64 - u) * (64 - u)) b hb)
       (place_term (3 * u * u * (64 - u)) c hc) (place_term (u * u * u) d hd) (weights u few)
 
--- the coefficients are small where the curve's start and its ways are
+-- the coefficients are small if the curve's start and the legs of its control polygon are
 pub small_powers : (start first second third : ℤ) (p : Powers) → ArePowersOf start first second third p
     → unsigned_abs start ≤ 2 ^ 29 → unsigned_abs first ≤ 2 ^ 30 → unsigned_abs second ≤ 2 ^ 30 → unsigned_abs third ≤ 2 ^ 30
     → AreSmallPowers p
@@ -100,7 +100,7 @@ small_powers start first second third p is hs hf hg hh = record {
   cube = (let e = is.cube in omega (arith, ints));
 }
 
--- a step of Horner's rule
+-- one step of Horner's rule fits in 64 bits
 module _ (s n f : ℤ) (u : ℕ) (hs : unsigned_abs s ≤ 2 ^ 48) (hu : u ≤ 64) (hn : unsigned_abs n ≤ 2 ^ 48) (ef : f ≡ pos u) where
   product_small : unsigned_abs (s *ℤ pos u) ≤ unsigned_abs s * 64
   product_small = product_most s (pos u) (unsigned_abs s) 64 (omega arith) hu
@@ -131,7 +131,7 @@ module _ (s n f : ℤ) (u : ℕ) (hs : unsigned_abs s ≤ 2 ^ 48) (hu : u ≤ 64
   pub next_most : unsigned_abs (again w64 (again w64 (again w64 s *ℤ again w64 f) +ℤ again w64 n)) ≤ unsigned_abs s * 64 + unsigned_abs n
   next_most = rw next_is next_small
 
--- the coefficients as the code works them out
+-- the coefficients, as the code computes them in 64 bits
 multiple_is : (n m : ℕ) (z : ℤ) → unsigned_abs z ≤ m → m < 2 ^ 63 → n * m < 2 ^ 63 → again w64 (pos n *ℤ again w64 z) ≡ pos n *ℤ z
 multiple_is n m z h few fewer = rw (back z (omega arith)) (back (pos n *ℤ z) (omega (arith, part_most n m z h)))
 
@@ -162,7 +162,7 @@ module _ (s f g h x : ℤ) (hs : unsigned_abs s ≤ 2 ^ 29) (hf : unsigned_abs f
     cube = cube_is;
   }
 
--- the same by equal numbers
+-- equal numbers have equal coefficients
 powers_same : (s f g h s' f' g' h' : ℤ) (p : Powers) → s ≡ s' → f ≡ f' → g ≡ g' → h ≡ h' → ArePowersOf s f g h p → ArePowersOf s' f' g' h' p
 powers_same s f g h s' f' g' h' p es ef eg eh is =
     let P : ℤ → Type 0 = λ z. ArePowersOf z f g h p in
@@ -176,7 +176,7 @@ pub powers_back : (s f g h : ℤ) (p : Powers) → unsigned_abs s ≤ 2 ^ 29 →
 powers_back s f g h p hs hf hg hh is =
     powers_same _ _ _ _ _ _ _ _ p (short_back s hs) (back f (omega arith)) (back g (omega arith)) (back h (omega arith)) is
 
--- so a coordinate is worked out of those of a curve
+-- the code's result for a coordinate is the coordinate of the curve
 module _ (u : ℕ) (few : u ≤ 64) (a b c d f g h : ℤ) (ef : f ≡ b -ℤ a) (eg : g ≡ c -ℤ b) (eh : h ≡ d -ℤ c) (p : Powers) (is : ArePowersOf a f g h p)
     (ha : unsigned_abs a ≤ 2 ^ 29) (hb : unsigned_abs b ≤ 2 ^ 29) (hc : unsigned_abs c ≤ 2 ^ 29) (hd : unsigned_abs d ≤ 2 ^ 29) where
   pub small_there : AreSmallPowers p

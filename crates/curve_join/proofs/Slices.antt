@@ -1,4 +1,4 @@
--- Runs as slices of the pieces.
+-- Runs as slices of the list of bends.
 use Rattle.std.proofs.Common.{◌≡◌, ℕ, ◌+◌, ◌-◌, ◌≤◌, Bool, true, false, cond, nat_eq, List, length, drop, length-drop, Option, None, Some, IsTrue, ◌↔◌, inl, inr, refl, ap, ◌∙◌, arith}
 use Rattle.std.proofs.lemmas.Bool.Decides.{nat_tests}
 use Rattle.std.proofs.lemmas.List.{length-take}
@@ -6,7 +6,7 @@ use Rattle.std.specs.Prelude.{is_some}
 use Rattle.std.specs.List.{slice_range}
 use Rattle.pt_core.specs.declared.piece.Piece.{Piece}
 use Rattle.curve_join.specs.Choice.{MayBeOne, run_penalty}
-use Rattle.curve_join.proofs.Giving.{IsJoinGiven}
+use Rattle.curve_join.proofs.RunPenalties.{IsJoinGiven}
 use Rattle.curve_join.specs.Join.{MayJoin, joined_piece, penalty_at}
 use Rattle.curve_join.specs.declared.bend.Bend.{Bend}
 
@@ -14,7 +14,7 @@ if_false : (b : Bool) (n : ℕ) → b ≡ false → n ≡ cond b 0 n
 if_false true n e = absurd (cc e)
 if_false false n e = refl
 
--- where a run of several pieces ends
+-- the end of a run of several pieces is on the outline, and at most 64 pieces away
 module _ (bends : List Bend) (tol i j : ℕ) (more : ¬ (j - i ≡ 1)) where
   pub ends_within : MayBeOne tol bends i j → j ≤ length bends
   ends_within (inl next) = absurd (more (omega arith))
@@ -26,7 +26,7 @@ module _ (bends : List Bend) (tol i j : ℕ) (more : ¬ (j - i ≡ 1)) where
       let few = is.1.few in
       omega (arith, is.0, length-take (j - i) (drop i bends), length-drop i bends)
 
--- a run of the pieces
+-- a run that is a slice of the bends
 module _ (bends run : List Bend) (i j : ℕ) (same : run ≡ slice_range bends i j) (more : ¬ (j - i ≡ 1)) where
   pub joinable : (tol : ℕ) → MayBeOne tol bends i j → MayJoin tol run
   joinable tol (inl next) = absurd (more (omega arith))

@@ -1,4 +1,4 @@
--- A quadratic on one of equal stretches.
+-- The stretch that halving finds has the quadratic's coefficients on it, and contains the change of sign.
 use Rattle.std.proofs.Common.{◌≡◌, inl, inr, ℕ, zero, suc, ◌+◌, ◌-◌, ◌*◌, ◌<◌, ◌≤◌, ◌^◌, ℤ, pos, ◌+ℤ◌, ◌*ℤ◌, ◌<ℤ◌, ◌≤ℤ◌, sym, ap, subst, ◌∙◌, arith}
 use Rattle.std.proofs.lemmas.Int.{ints}
 use Rattle.std.proofs.lemmas.Nat.{mul-le, pow-add}
@@ -12,14 +12,14 @@ use Rattle.curve_join.specs.Cubic.{quadratic}
 use Rattle.curve_join.specs.Inner.Halves.{IsHalf, IsFirstHalf, IsSecondHalf, middle_value}
 use Rattle.curve_join.specs.declared.touch.Stretch.{Stretch}
 
--- three weighted coefficients
+-- three coefficients, weighted
 abbrev pub weighted : ℕ → ℕ → ℕ → ℤ → ℤ → ℤ → ℤ
 weighted k l m a b c = (pos k *ℤ a +ℤ pos l *ℤ b) +ℤ pos m *ℤ c
 
 abbrev term : ℕ → ℕ → ℕ → ℤ → ℤ → ℤ → Term
 term k l m a b c = plus (plus (times (num (pos k)) (num a)) (times (num (pos l)) (num b))) (times (num (pos m)) (num c))
 
--- the coefficients on stretch number l, with r behind it, times the square of their number
+-- the coefficients on stretch number l, if r stretches follow it, times the square of the number of stretches
 abbrev pub start_by : ℕ → ℕ → ℤ → ℤ → ℤ → ℤ
 start_by l r = weighted ((r + 1) * (r + 1)) (2 * l * (r + 1)) (l * l)
 
@@ -59,7 +59,8 @@ module _ (l r : ℕ) (a b c : ℤ) where
   end_twice : pos 4 *ℤ end_by l r a b c ≡ end_by (2 * l + 1) (2 * r) a b c
   end_twice = same_value (times (num (pos 4)) (end_term l r a b c)) (end_term (2 * l + 1) (2 * r) a b c) (omega arith)
 
--- the stretch is one of n, of the quadratic of these coefficients, which is above 0 at its start and not at its end
+-- the stretch is one of n, has the quadratic's coefficients, and the quadratic is above 0 at its start and not at its
+-- end
 pub record IsStretch (n : ℕ) (a b c : ℤ) (s : Stretch) : Type 0 where
   pub rest : ℕ
   pub parts : s.last + rest + 1 ≡ n
@@ -85,7 +86,7 @@ twice_both m y z w e h k = omega (arith, ints)
 all_four : (m : ℕ) (x y z w : ℤ) → w ≡ (x +ℤ y) +ℤ (y +ℤ z) → unsigned_abs x ≤ m → unsigned_abs y ≤ m → unsigned_abs z ≤ m → unsigned_abs w ≤ 4 * m
 all_four m x y z w e h k l = omega (arith, ints)
 
--- the place of a half among all, and the signs at its ends
+-- the number of a half among all stretches, and the signs at its ends
 first_parts : (l r n k : ℕ) → l + r + 1 ≡ n → k ≡ 2 * l → k + (2 * r + 1) + 1 ≡ 2 * n
 first_parts l r n k e h = omega arith
 
@@ -142,7 +143,7 @@ module _ (n : ℕ) (a b c : ℤ) (s half : Stretch) (is : IsStretch n a b c s) w
     | inr k ↦ second k.0 k.1
   ]
 
--- the whole
+-- the first stretch is the whole quadratic
 start_whole : (l : ℕ) (a b c : ℤ) → l ≡ 0 → a ≡ start_by l 0 a b c
 start_whole l a b c none = omega (arith, ints) ∙ ap (λ k. start_by k 0 a b c) (sym none)
 
@@ -168,7 +169,7 @@ whole a b c s none ea eb ec h above below = record {
   below = rw ec below;
 }
 
--- one of 64 stretches: where it begins and where it ends
+-- the start and the end of one of 64 stretches
 one_of : (l r : ℕ) → l + r + 1 ≡ 64 → l < 64
 one_of l r e = omega arith
 
@@ -192,9 +193,9 @@ module _ (a b c : ℤ) (s : Stretch) (is : IsStretch 64 a b c s) where
       let e = rest_behind s.last is.rest is.parts in
       is.end ∙ ap (λ n. (pos (n * n) *ℤ a +ℤ pos (2 * (s.last + 1) * n) *ℤ b) +ℤ pos ((s.last + 1) * (s.last + 1)) *ℤ c) e
 
--- ---- of two numbers, the one with the lesser size
+-- ---- of two numbers, the one with the lesser value
 
--- a number, and what a function is there
+-- a number with the value of a function there
 pub record Sized (f : ℕ → ℕ) : Type 0 where
   pub at : ℕ
   pub size : ℕ
@@ -217,14 +218,14 @@ module _ (f : ℕ → ℕ) (u v : Sized f) (p k : ℕ)
   abbrev pub taken : Sized f
   taken = record { at = p; size = k; is = its_size }
 
--- the sizes of a quadratic at its ends
+-- the absolute values of a quadratic at its ends
 pub start_size : (a b c : ℤ) (n : ℕ) → n ≡ unsigned_abs a → 4096 * n ≡ unsigned_abs (quadratic 0 a b c)
 start_size a b c n e = omega (arith, ints)
 
 pub end_size : (a b c : ℤ) (n : ℕ) → n ≡ unsigned_abs c → 4096 * n ≡ unsigned_abs (quadratic 64 a b c)
 end_size a b c n e = omega (arith, ints)
 
--- ---- the numbers that fit
+-- ---- the numbers fit in their types
 
 pub within_59 : (n : ℕ) (x y z : ℤ) → n ≤ 32 → AreWithin (2 ^ 49 * (n * n)) x y z → AreWithin (2 ^ 59) x y z
 within_59 n x y z few h =

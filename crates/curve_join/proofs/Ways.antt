@@ -1,4 +1,4 @@
--- Which of several ways on is the best.
+-- The best way on from a piece is the best of the ways by each run that begins there.
 use Rattle.std.proofs.Common.{◌≡◌, ℕ, Bool, true, false, cond, nat_eq, ◌+◌, ◌<◌, ◌≤◌, ◌⊎◌, List, [], ◌∷◌, length, refl, inl, inr, ap, sym, subst, ◌∙◌, set, get_or-set_same, arith}
 use Rattle.std.proofs.Math.Decide.{dec_lt}
 use Rattle.std.proofs.lemmas.Bool.Decides.{nat_tests}
@@ -14,7 +14,7 @@ use Rattle.curve_join.specs.Inner.CutSearch.{AreLeastCosts, IsNotBehind, paid}
 use Rattle.curve_join.specs.declared.bend.Bend.{Bend}
 use Rattle.curve_join.specs.declared.search.WayOn.{WayOn}
 
--- the order of ways on
+-- the order of ways on is reflexive and transitive
 pub up_to_itself : (a : WayOn) → IsNotBehind a a
 up_to_itself a = record { count = omega arith; cost = λ e. omega arith; next = λ e f. omega arith }
 
@@ -33,7 +33,7 @@ up_to_through a b c ab bc =
           omega arith;
     }
 
--- what comes behind without its penalty does with it
+-- a way that isn't better without its penalty isn't better with it
 pub up_to_paid : (a b : WayOn) (penalty : ℕ) → IsNotBehind a b → IsNotBehind a (paid penalty b)
 up_to_paid a b penalty is =
     let first = is.count in
@@ -48,7 +48,7 @@ way_is a b e f g =
     let by : ℕ → ℕ → ℕ → WayOn = λ n c k. record { count = n; cost = c; next = k } in
     ap (λ n. by n a.cost a.next) e ∙ ap (λ c. by b.count c a.next) f ∙ ap (λ k. by b.count b.cost k) g
 
--- a run of one piece has no penalty, and a longer one has that of its curve
+-- a run of one piece has no penalty, and a longer one has the penalty of its curve
 cond_true : (b : Bool) (n : ℕ) → b ≡ true → cond b 0 n ≡ 0
 cond_true true n e = refl
 cond_true false n e = absurd (cc e)
@@ -63,34 +63,34 @@ penalty_alone bends i j e = cond_true (nat_eq j (i + 1)) (penalty_at (slice_rang
 pub penalty_joined : (bends : List Bend) (i j : ℕ) → i + 1 < j → run_penalty bends i j ≡ penalty_at (slice_range bends i j)
 penalty_joined bends i j far = cond_false (nat_eq j (i + 1)) (penalty_at (slice_range bends i j)) (grind (arith, nat_tests))
 
--- the way on from i by the step to k
+-- the way on from i that begins with the step to k
 abbrev pub way_to : (ℕ → ℕ → ℕ) → List ℕ → List ℕ → ℕ → ℕ → WayOn
 way_to cost counts costs i k = record { count = slice_index counts k + 1; cost = slice_index costs k + cost i k; next = k }
 
--- it is such a way
+-- the way is one that begins with an allowed step
 abbrev pub IsWay : ℕ → (ℕ → ℕ → Type 0) → (ℕ → ℕ → ℕ) → List ℕ → List ℕ → ℕ → WayOn → Type 0
 IsWay size is_allowed cost counts costs i best =
     (i < best.next) × (best.next ≤ size) × is_allowed i best.next × (best ≡ way_to cost counts costs i best.next)
 
--- and none by the step to the next index, or by one to `to` or farther, comes before it
+-- the way is at least as good as those by the step to the next index and by the steps to `to` or farther
 pub record IsBestTo (size : ℕ) (is_allowed : ℕ → ℕ → Type 0) (cost : ℕ → ℕ → ℕ) (counts costs : List ℕ) (i to : ℕ) (best : WayOn) : Type 0 where
   pub way : IsWay size is_allowed cost counts costs i best
   pub least : (k : ℕ) → i < k → (k ≡ i + 1) ⊎ (to ≤ k) → k ≤ size → is_allowed i k → IsNotBehind best (way_to cost counts costs i k)
 
--- a way on by a run that ends at k, without that run's penalty
+-- a way on by a run that ends at k, without the penalty of that run
 pub record EndsAt (counts costs : List ℕ) (k : ℕ) (way : WayOn) : Type 0 where
   pub count : way.count ≡ slice_index counts k + 1
   pub cost : way.cost ≡ slice_index costs k
   pub next : way.next ≡ k
 
--- the better of the best way on so far and of this one, if its run is allowed, with the penalty
+-- the better one of the best way on until now and of this way with its penalty, if its run is allowed
 pub record IsBetter (is_allowed : ℕ → ℕ → Type 0) (cost : ℕ → ℕ → ℕ) (i : ℕ) (way so_far better : WayOn) : Type 0 where
   pub one : (better ≡ so_far) ⊎ (is_allowed i way.next × (better ≡ paid (cost i way.next) way))
   pub best : IsNotBehind better so_far
   pub run : is_allowed i way.next → IsNotBehind better (paid (cost i way.next) way)
 
 module _ (size : ℕ) (is_allowed : ℕ → ℕ → Type 0) (cost : ℕ → ℕ → ℕ) where
-  -- one more step
+  -- the best way on after one more step
   pub best_more : (counts costs : List ℕ) (i k to : ℕ) (way best better : WayOn) → i < k → k ≤ size → k + 1 ≡ to
       → EndsAt counts costs k way → IsBetter is_allowed cost i way best better
       → IsBestTo size is_allowed cost counts costs i to best → IsBestTo size is_allowed cost counts costs i k better
@@ -119,7 +119,7 @@ module _ (size : ℕ) (is_allowed : ℕ → ℕ → Type 0) (cost : ℕ → ℕ 
         ];
       }
 
-  -- where all steps from i are seen
+  -- the best way on if all steps from i were tried
   module _ (counts costs : List ℕ) (i to : ℕ) (best : WayOn) (below : i < size) (room : i < length counts) (near : to ≤ i + 2)
       (later : HasFewest size is_allowed (i + 1) counts) (spent : AreLeastCosts size is_allowed cost (i + 1) costs)
       (is : IsBestTo size is_allowed cost counts costs i to best) where
@@ -149,7 +149,7 @@ module _ (size : ℕ) (is_allowed : ℕ → ℕ → Type 0) (cost : ℕ → ℕ 
         fewest_onward size is_allowed counts i best.count below later (λ k above k_within k_allowed. (least k above k_within k_allowed).count)
         best.next onwards within allowed count_is
 
-    -- the counts with that of i
+    -- the counts with the one of index i
     abbrev with_count : List ℕ
     with_count = set counts i best.count
 
@@ -189,7 +189,7 @@ module _ (size : ℕ) (is_allowed : ℕ → ℕ → Type 0) (cost : ℕ → ℕ 
     pub next_there : IsLeastNext size is_allowed cost i best.next
     next_there = record { rest = after.rest; is_least = least_by_next }
 
-  -- what is written down
+  -- the lists at the end of the outline, and with one more entry
   pub none_left : IsFewestFrom size is_allowed size 0
   none_left = record { rest = []; goes_on = refl; count = refl; none_fewer = λ other goes. omega arith }
 

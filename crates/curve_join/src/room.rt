@@ -1,13 +1,14 @@
-//! Room for the lists that joining an outline takes.
+//! Buffers for joining an outline.
 ghost use Rattle.std.specs.Prelude.{◌≡◌, All, IfOk, length};
 
 use crate::bend::Bend;
 use pt_core::{NoMemory, Piece, Point};
 use std::alloc::Global;
 
-/// Lists that are kept from one outline to the next.
+/// Lists that are reused from one outline to the next. What they hold between two calls doesn't matter.
 //
-// A page of text has thousands of small outlines, and to make five lists for each took as long as their curves.
+// A page of text has thousands of small outlines, and allocating five lists for each took as long as computing their
+// curves.
 #[derive(Drop)]
 pub struct JoinRoom {
     pub(crate) bends: Vec<Bend>,
@@ -19,7 +20,7 @@ pub struct JoinRoom {
 }
 
 impl JoinRoom {
-    /// No room yet: it grows as outlines ask for it.
+    /// Empty lists, which grow as outlines need it.
     pub fn new(alloc: Global) -> JoinRoom {
         JoinRoom {
             bends: Vec::new(alloc),
@@ -32,15 +33,15 @@ impl JoinRoom {
     }
 }
 
-/// A run and the piece that it becomes.
+/// A run and the piece that replaces it.
 #[derive(Clone, Copy, Drop)]
 pub(crate) struct JoinedRun {
-    /// Where the run ends; 0 where none was found.
+    /// The index after the run's last piece; 0 if no run was found.
     pub to: u32,
     pub piece: Piece,
 }
 
-/// A list of so many places in which no run stands.
+/// A list of `places` entries without runs, in the memory of `list`.
 pub(crate) fn without_runs(
     mut list: Vec<JoinedRun>,
     places: usize,
@@ -58,7 +59,7 @@ pub(crate) fn without_runs(
     Ok(list)
 }
 
-/// A list of so many places, whatever stands there.
+/// A list of `places` entries, in the memory of `list`. New entries hold `value`, and old ones keep what they hold.
 pub(crate) fn with_places<T: Copy + Drop>(
     mut list: Vec<T>,
     places: usize,

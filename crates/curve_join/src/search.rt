@@ -1,8 +1,8 @@
 //! The best cut of an outline into runs.
 //!
-//! The best way on from a piece goes by one run to a later piece, and on from there by the best way from that one. So
-//! the ways on are found from the end down, all that is asked of one in one go: how many runs it has, what they cost,
-//! and where the first of them ends.
+//! The best way on from a piece takes one run to a later piece, and then the best way on from that one. So the ways are
+//! computed from the end backwards. For each piece the search finds three things at once: the number of runs of its
+//! best way on, their cost, and the end of the first one.
 ghost use Rattle.std.specs.Prelude.{◌≡◌, ℕ, ◌+◌, ◌<◌, ◌≤◌, ◌^◌, ◌⊎◌, true, false, length, slice_index, slice_range, All, IfOk, OnOk};
 ghost use Rattle.least_walk.specs.LeastWalk.{IsLeast, walk_from};
 ghost use Rattle.least_walk.specs.Inner.Suffix.{HasCosts, HasFewest, HasNexts, IsFewestFrom, IsLeastCost, IsLeastNext};
@@ -22,19 +22,20 @@ use pt_core::NoMemory;
 use std::alloc::Global;
 use std::mem::replace;
 
-/// A way on from a piece.
+/// A way on from a piece to the end of the outline.
 #[derive(Clone, Copy)]
 pub(crate) struct WayOn {
-    /// How many runs it has.
+    /// The number of its runs.
     count: u32,
-    /// What they cost together.
+    /// The sum of their penalties.
     cost: u128,
-    /// Where the first of them ends.
+    /// The end of its first run.
     next: u32,
 }
 
 impl WayOn {
-    /// Whether it comes before another one: it has fewer runs, or as many that cost less, or else a shorter first one.
+    /// Whether this way is better than the other one: it has fewer runs, or equally many at a lower cost, or equal cost
+    /// and a shorter first run.
     fn is_before(self, other: WayOn) -> bool
         ensures before { result ≡ true → IsNotBehind self other }
         ensures not { result ≡ false → IsNotBehind other self }
@@ -49,7 +50,7 @@ impl WayOn {
     }
 }
 
-/// The same as `least` finds.
+/// The walk that `least_walk::least` finds for these runs, computed with less work.
 pub(crate) fn least_by_runs(
     alloc: Global,
     runs: &Runs,
@@ -75,7 +76,7 @@ pub(crate) fn least_by_runs(
     Ok(walk)
 }
 
-/// Writes down the best way on from each piece.
+/// Fills in the best way on from each piece.
 fn fill_ways(
     runs: &Runs,
     counts: &mut [u32],
@@ -107,9 +108,9 @@ fn fill_ways(
     }
 }
 
-/// The best way on from a piece, by those from each later one.
+/// The best way on from a piece, if those from each later piece are known.
 //
-// The farthest run comes first: from there the fewest are left in most cases, and then the nearer ones are out by
+// The farthest run is tried first. In most cases it leaves the fewest runs, and then the nearer ones are ruled out by
 // their counts alone.
 fn best_from(
     runs: &Runs,
@@ -142,7 +143,8 @@ fn best_from(
     best
 }
 
-/// Where the pieces no longer go round as a run does that begins here, or where a run would be too long.
+/// The end of the longest run that may begin at this piece: the pieces after it no longer go round, or the run would
+/// have more than 64 pieces.
 fn last_from(bends: &[Bend], from: usize) -> u32
     requires small { All IsWorkable bends.now }
     requires most { length bends.now ≤ 2 ^ 31 }
@@ -155,7 +157,7 @@ fn last_from(bends: &[Bend], from: usize) -> u32
     (from + count.max(1)) as u32
 }
 
-/// The way on by a run that ends here, without that run's penalty.
+/// The way on by a run that ends at `to`, without the penalty of that run.
 fn way_by(counts: &[u32], costs: &[u128], to: u32) -> WayOn
     requires count { to < length counts.now }
     requires cost { to < length costs.now }
@@ -171,10 +173,10 @@ fn way_by(counts: &[u32], costs: &[u128], to: u32) -> WayOn
     }
 }
 
-/// The way on by a run, of which `way` lacks the penalty, where it comes before the best one so far; then the run
-/// becomes `joined`.
+/// The better one of `best` and the way on by a run that ends at `way.next`. `way` doesn't include the penalty of that
+/// run. If the run is better, its piece is stored in `joined`.
 //
-// What comes behind that one without the penalty already is out before the run is looked at.
+// A way that isn't better even without the penalty is ruled out before the run is examined.
 fn better(runs: &Runs, from: u32, way: WayOn, best: WayOn, joined: &mut JoinedRun) -> WayOn
     requires from { from < length runs.now.bends.items }
     requires onwards { from + 1 < way.next }
@@ -214,7 +216,7 @@ fn better(runs: &Runs, from: u32, way: WayOn, best: WayOn, joined: &mut JoinedRu
     way
 }
 
-/// The greatest penalty with which a way on may still come before another one.
+/// The greatest penalty with which a way on may still be better than `best`.
 fn limit_of(way: WayOn, best: WayOn) -> u64
     requires { IsNotBehind way best }
     ensures { (penalty : ℕ) → penalty < 2 ^ 56 → result < penalty → IsNotBehind best (paid penalty way) }

@@ -10,14 +10,15 @@ use crate::cubic::Cubic;
 use crate::vector::{Displacement, way};
 use pt_core::Point;
 
-/// A curve that may take a run's place, and what its directions and places are worked out from.
+/// A curve that may replace a run, with the values from which its tangents and points are computed.
 //
-// A run asks for many of both. So the ways between its places are worked out once, and so is each coordinate as a
-// polynomial of u, of which Horner's rule takes three products.
+// A run asks for many of both. So the legs of the control polygon are computed once, and each coordinate is a
+// polynomial in u, for which Horner's rule needs three products.
 #[derive(Clone, Copy)]
 pub(crate) struct StandIn {
     pub(crate) cubic: Cubic,
-    /// The ways from its start to the first control, from there to the second one, and on to its end.
+    /// The legs of the control polygon: from the start to the first control point, on to the second one, and on to the
+    /// end.
     pub(crate) first: Displacement,
     pub(crate) second: Displacement,
     pub(crate) third: Displacement,
@@ -32,7 +33,7 @@ pub(crate) struct StandIn {
 }
 
 impl StandIn {
-    /// This curve.
+    /// Prepares a curve.
     pub(crate) fn of(cubic: Cubic) -> StandIn
         requires { LiesWithin (2 ^ 29) cubic }
         ensures { result.cubic ≡ cubic }
@@ -50,7 +51,7 @@ impl StandIn {
         }
     }
 
-    /// Its place at u / 64, rounded down.
+    /// The curve's point at u / 64, rounded down to 1/1024 pixel.
     pub(crate) fn place(&self, u: u32) -> Point
         requires { u ≤ 64 }
         ensures value { result ≡ place_at self.now.cubic u }
@@ -63,7 +64,7 @@ impl StandIn {
     }
 }
 
-/// The coefficients of a coordinate's polynomial in u, which is 262,144 times the coordinate at u / 64.
+/// The coefficients of a polynomial in u, which is 262,144 (64^3) times a coordinate of the curve's point at u / 64.
 #[derive(Clone, Copy)]
 struct Powers {
     constant: i64,
@@ -73,7 +74,8 @@ struct Powers {
 }
 
 impl Powers {
-    /// Those of a curve with this coordinate of its start and of the ways between its places.
+    /// The polynomial for one coordinate of a curve, from that coordinate of the curve's start and of the three legs of
+    /// its control polygon.
     fn of(start: i32, first: i64, second: i64, third: i64) -> Powers
         requires start { unsigned_abs start ≤ 2 ^ 29 }
         requires first { unsigned_abs first ≤ 2 ^ 30 }
@@ -89,7 +91,7 @@ impl Powers {
         }
     }
 
-    /// The polynomial at u.
+    /// The value of the polynomial at u.
     fn sum(&self, u: u32) -> i64
         requires u { u ≤ 64 }
         requires small { AreSmallPowers self.now }
@@ -101,7 +103,7 @@ impl Powers {
     }
 }
 
-/// A step of Horner's rule.
+/// One step of Horner's rule.
 fn horner(sum: i64, u: u32, next: i64) -> i64
     requires sum { unsigned_abs sum ≤ 2 ^ 48 }
     requires u { u ≤ 64 }
@@ -112,7 +114,7 @@ fn horner(sum: i64, u: u32, next: i64) -> i64
     sum * i64::from(u) + next
 }
 
-/// A sum by 262,144, rounded down.
+/// `sum` / 262,144, rounded down.
 fn floor(sum: i64) -> i32
     requires { unsigned_abs sum ≤ 262144 * 2 ^ 29 }
     ensures value { result ≡ floor_of sum 262144 }

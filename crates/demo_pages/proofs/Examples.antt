@@ -1,4 +1,4 @@
--- The definitions on small pictures.
+-- The definitions, computed for small pictures.
 use Rattle.std.proofs.Common.{◌≡◌, true, false, refl}
 use Rattle.bit_image.specs.Image.{white}
 use Rattle.demo_pages.specs.declared.bar.Bar.{Bar}
@@ -6,7 +6,7 @@ use Rattle.demo_pages.specs.declared.rectangle.Rectangle.{Rectangle}
 use Rattle.demo_pages.specs.Generator.{next_state, number_at, state_after}
 use Rattle.demo_pages.specs.Picture.{bar_at, inverted_area, is_in_bar, is_in_rectangle, rectangle_at}
 
--- the first numbers of three pages, worked out apart from this
+-- the first numbers of three pages, computed independently
 first_number : number_at 3 ≡ 15547
 unfolding next_state
 first_number = refl
@@ -45,7 +45,7 @@ above_it = refl
 twice : inverted_area (inverted_area white (is_in_rectangle block)) (is_in_rectangle block) 6 8 ≡ false
 twice = refl
 
--- a bar from pixel (10, 20) on, which rises by a row every two columns
+-- a bar that begins at pixel (10, 20) and rises by a row every two columns
 abbrev slope : Bar
 slope = record { left = 10; bottom = 20; run = 2 }
 

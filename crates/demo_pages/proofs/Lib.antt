@@ -1,2 +1,3 @@
+-- Lemmas about the states of the generator and the pages made from them.
 mod Examples
-pub mod Drawing
+pub mod Draws

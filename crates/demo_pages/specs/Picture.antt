@@ -1,5 +1,5 @@
--- The pages of the demo: 40 rectangles and then 4 slanted bars, each of which inverts its pixels on a page that
--- begins white.
+-- The pages of the demo: 40 rectangles and then 4 slanted bars on a white page. Each rectangle and each bar inverts its
+-- pixels.
 use Rattle.std.specs.Prelude.{ℕ, zero, suc, ◌+◌, ◌-◌, ◌*◌, ◌/◌, ◌%◌, Bool, ◌&&◌, List, [], ◌∷◌}
 use Rattle.bit_image.specs.Image.{Image, differ, white, within}
 use Rattle.bit_image.specs.Page.{Page, page_of}
@@ -11,7 +11,7 @@ use Rattle.demo_pages.specs.Generator.{number_at, state_after}
 abbrev pub is_in_rectangle : Rectangle → ℕ → ℕ → Bool
 is_in_rectangle r u v = within r.left (r.left + r.width) u && within r.bottom (r.bottom + r.height) v
 
--- pixel (u, v) lies in the bar: in one of its 64 columns, and there in one of 6 rows
+-- pixel (u, v) lies in the bar: in one of its 64 columns, and in one of the bar's 6 rows there
 abbrev pub is_in_bar : Bar → ℕ → ℕ → Bool
 is_in_bar bar u v =
     let low = bar.bottom + (u - bar.left) / bar.run in
@@ -21,7 +21,7 @@ is_in_bar bar u v =
 abbrev pub inverted_area : Image → (ℕ → ℕ → Bool) → Image
 inverted_area b area u v = differ (b u v) (area u v)
 
--- the rectangle of the four numbers that are drawn from a state on
+-- the rectangle that is made from the next four numbers of a state
 abbrev pub rectangle_at : ℕ → Rectangle
 rectangle_at state = record {
   left = number_at state % 240;
@@ -30,7 +30,7 @@ rectangle_at state = record {
   height = 1 + number_at (state_after 3 state) % 16;
 }
 
--- the bar of the three numbers that are drawn from a state on
+-- the bar that is made from the next three numbers of a state
 abbrev pub bar_at : ℕ → Bar
 bar_at state = record {
   left = number_at state % 128;
@@ -38,25 +38,25 @@ bar_at state = record {
   run = 1 + number_at (state_after 2 state) % 5;
 }
 
--- an image with the pixels of the first rectangles inverted, of one after another
+-- an image after the first n rectangles have inverted their pixels
 unfoldable pub with_rectangles : ℕ → ℕ → Image → Image
 with_rectangles zero state b = b
 with_rectangles (suc n) state b = inverted_area (with_rectangles n state b) (is_in_rectangle (rectangle_at (state_after (4 * n) state)))
 
--- an image with the pixels of the first bars inverted, of one after another
+-- an image after the first n bars have inverted their pixels
 unfoldable pub with_bars : ℕ → ℕ → Image → Image
 with_bars zero state b = b
 with_bars (suc n) state b = inverted_area (with_bars n state b) (is_in_bar (bar_at (state_after (3 * n) state)))
 
--- the image of a page: first the rectangles, and then the bars
+-- the image of a page: first the rectangles, then the bars
 abbrev pub demo_image : ℕ → Image
 demo_image state = with_bars 4 (state_after (4 * 40) state) (with_rectangles 40 state white)
 
--- the page that is made from a state on: 256 columns and 192 rows
+-- the page that is made from a state, with 256 columns and 192 rows
 abbrev pub picture_page : ℕ → Page
 picture_page state = page_of 256 192 (demo_image state)
 
--- so many pages, each made from where the one before ended, 172 draws on
+-- n pages; each one needs 172 draws, and the next one is made from the state after them
 unfoldable pub pages_from : ℕ → ℕ → List Page
 pages_from zero state = []
 pages_from (suc n) state = picture_page state ∷ pages_from n (state_after 172 state)

@@ -9,14 +9,14 @@ use crate::page::{HEIGHT, WIDTH};
 use crate::rectangle::Rectangle;
 use bit_image::Bitmap;
 
-/// The columns of a bar.
+/// The number of columns of a bar.
 pub(crate) const BAR_LENGTH: u32 = 64;
 
-/// The pixels of a bar in each of its columns.
+/// The number of pixels of a bar in each of its columns.
 pub(crate) const BAR_HEIGHT: u32 = 6;
 
-/// A bar that rises by a row every `run` columns. Its first column is `left`, and its lowest pixel there is
-/// in row `bottom`.
+/// A bar that rises by a row every `run` columns. Its first column is `left`, and the lowest pixel there is in row
+/// `bottom`.
 #[derive(Clone, Copy)]
 pub(crate) struct Bar {
     pub left: u32,
@@ -25,8 +25,8 @@ pub(crate) struct Bar {
 }
 
 impl Bar {
-    /// The bar of the next three numbers. It lies on a page of the demo: its first column is below 128 and its
-    /// lowest row below 96, and it rises by at most a row a column.
+    /// Makes a bar from the next three numbers of the generator. It fits on a page of the demo: its first column is
+    /// below 128, its lowest row is below 96, and it rises by at most one row per column.
     pub(crate) fn drawn(generator: &mut Generator) -> Bar
         ensures bar { result ≡ bar_at generator.old }
         ensures state { generator.new ≡ state_after 3 generator.old }
@@ -40,7 +40,7 @@ impl Bar {
         Bar { left, bottom, run }
     }
 
-    /// Inverts its pixels.
+    /// Inverts the bar's pixels.
     pub(crate) fn invert(&self, page: &mut Bitmap)
         requires rises { 1 ≤ self.now.run }
         requires columns { self.now.left + BAR_LENGTH ≤ page.old.width }
@@ -49,7 +49,7 @@ impl Bar {
         ensures pixels { (u v : ℕ) → image_of page.new u v
             ≡ inverted_area (image_of page.old) (is_in_bar self.now) u v }
     {
-        // The proof reads here how long the page's sides are at most.
+        // From this call the proof knows that the page's sides have an upper limit.
         let _ = page.width();
         for column in 0..BAR_LENGTH {
             let part = Rectangle {

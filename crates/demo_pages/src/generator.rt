@@ -1,4 +1,4 @@
-//! The numbers of which the pages are made.
+//! The numbers from which the pages are made.
 ghost use Rattle.std.specs.Prelude.{◌≡◌, ◌/◌};
 ghost use Rattle.demo_pages.specs.Generator.{next_state, number_at};
 
@@ -26,7 +26,7 @@ impl Generator {
         Generator { state }
     }
 
-    /// The next number.
+    /// The next number, from 0 to 65,535.
     pub(crate) fn draw(&mut self) -> u32
         ensures state { self.new ≡ next_state self.old }
         ensures number { result ≡ number_at self.old }

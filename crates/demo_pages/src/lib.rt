@@ -1,7 +1,7 @@
-//! The pages of the demo, which are made from a number alone.
+//! Makes the pages of the demo from a number alone.
 //!
-//! A generator that starts from the number of pages gives the numbers of which each page is made: 40
-//! rectangles and then 4 slanted bars, each of which inverts its pixels.
+//! A generator starts from the number of pages. Each page is made from its next numbers: 40 rectangles and then 4
+//! slanted bars. Each rectangle and each bar inverts its pixels.
 //!
 //! ```text
 //!                                                                # #

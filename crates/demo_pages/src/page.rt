@@ -17,13 +17,13 @@ pub(crate) const WIDTH: u32 = 256;
 /// The height of each page, in pixels.
 pub(crate) const HEIGHT: u32 = 192;
 
-/// The rectangles of each page.
+/// The number of rectangles on each page.
 pub const RECTANGLES: u32 = 40;
 
-/// The bars of each page.
+/// The number of bars on each page.
 pub const BARS: u32 = 4;
 
-/// The next pages, so many of them, and the generator goes on behind them.
+/// Makes the next `count` pages and leaves the generator after them.
 pub fn next_pages(
     alloc: Global,
     count: u32,
@@ -31,7 +31,8 @@ pub fn next_pages(
 ) -> Result<Vec<Bitmap>, NoMemory>
     ensures count { IfOk result (λ pages. vec_len pages ≡ count) }
 
-    // They are the first pages, and however many more are made, these are made from where the generator stands then.
+    // These are the first pages of any longer series, and the rest of the series is made from the generator's new
+    // state.
     ensures pages { IfOk result (λ pages. (more : ℕ)
         → pages_from (count + more) generator.old ≡ pages.items ++ pages_from more generator.new) }
 {
@@ -43,7 +44,7 @@ pub fn next_pages(
     Ok(pages)
 }
 
-/// The next page: the rectangles invert a white page, and the bars what comes out of that.
+/// Makes the next page: rectangles invert pixels of a white page, and then bars invert pixels of the result.
 fn next_page(alloc: Global, generator: &mut Generator) -> Result<Bitmap, NoMemory>
     ensures page { IfOk result (λ page. page ≡ picture_page generator.old) }
     ensures state { OnOk result (generator.new
@@ -52,12 +53,12 @@ fn next_page(alloc: Global, generator: &mut Generator) -> Result<Bitmap, NoMemor
     let mut page = Bitmap::new(alloc, WIDTH, HEIGHT)?;
     invert_rectangles(&mut page, generator);
     invert_bars(&mut page, generator);
-    // That it is a page shows that its pixels are all there is to it.
+    // From this call the proof knows that the value is a page, so that its pixels determine it.
     let _ = page.width();
     Ok(page)
 }
 
-/// Inverts the pixels of the next rectangles, of one after another.
+/// Inverts the pixels of the next rectangles, one rectangle after the other.
 fn invert_rectangles(page: &mut Bitmap, generator: &mut Generator)
     requires width { page.old.width ≡ WIDTH }
     requires height { page.old.height ≡ HEIGHT }
@@ -71,7 +72,7 @@ fn invert_rectangles(page: &mut Bitmap, generator: &mut Generator)
     }
 }
 
-/// Inverts the pixels of the next bars, of one after another.
+/// Inverts the pixels of the next bars, one bar after the other.
 fn invert_bars(page: &mut Bitmap, generator: &mut Generator)
     requires width { page.old.width ≡ WIDTH }
     requires height { page.old.height ≡ HEIGHT }

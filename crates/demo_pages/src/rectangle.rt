@@ -8,7 +8,7 @@ use crate::generator::Generator;
 use crate::page::{HEIGHT, WIDTH};
 use bit_image::Bitmap;
 
-/// The pixels in so many columns from `left` on, and in so many rows from `bottom` up.
+/// The pixels in `width` columns from `left` on, and in `height` rows from `bottom` up.
 #[derive(Clone, Copy)]
 pub(crate) struct Rectangle {
     pub left: u32,
@@ -18,8 +18,8 @@ pub(crate) struct Rectangle {
 }
 
 impl Rectangle {
-    /// The rectangle of the next four numbers. It lies on a page of the demo: its first column is below 240, its
-    /// lowest row below 176, and it has at most 16 of both.
+    /// Makes a rectangle from the next four numbers of the generator. It fits on a page of the demo: its first column
+    /// is below 240, its lowest row is below 176, and it has at most 16 columns and 16 rows.
     pub(crate) fn drawn(generator: &mut Generator) -> Rectangle
         ensures rectangle { result ≡ rectangle_at generator.old }
         ensures state { generator.new ≡ state_after 4 generator.old }
@@ -38,7 +38,7 @@ impl Rectangle {
         }
     }
 
-    /// Inverts its pixels.
+    /// Inverts the rectangle's pixels.
     pub(crate) fn invert(&self, page: &mut Bitmap)
         requires columns { self.now.left + self.now.width ≤ page.old.width }
         requires rows { self.now.bottom + self.now.height ≤ page.old.height }
@@ -46,7 +46,7 @@ impl Rectangle {
         ensures pixels { (u v : ℕ) → image_of page.new u v
             ≡ inverted_area (image_of page.old) (is_in_rectangle self.now) u v }
     {
-        // The proof reads here how long the page's sides are at most.
+        // From these calls the proof knows that the page's sides have an upper limit.
         let _ = (page.width(), page.height());
         for row in self.bottom..self.bottom + self.height {
             page.flip_span(row, self.left, self.left + self.width);

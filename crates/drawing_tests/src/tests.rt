@@ -1,4 +1,4 @@
-//! Values that were worked out by hand, or by a plain program.
+//! Expected values come from computations by hand, or from a plain program.
 
 mod corners;
 mod drawings;

@@ -1,1 +1,2 @@
+-- Lemmas about weighted means.
 pub mod Means

@@ -1,4 +1,4 @@
--- Weighted means lie between the least and the greatest of the numbers, so that they fit 32 bits as these do.
+-- A weighted mean of 32-bit numbers fits in 32 bits, since it lies between the least and the greatest of them.
 use Rattle.std.proofs.Common.{◌≡◌, ℕ, suc, ◌+◌, ◌*◌, ◌^◌, ◌<◌, ◌≤◌, ℤ, pos, negsuc, neg_ℤ, ◌+ℤ◌, ◌*ℤ◌, ◌≤ℤ◌, unsigned_abs, w32, w64, to_z, of_z, refl, ap, sym, subst, ◌∙◌, arith}
 use Rattle.std.proofs.lemmas.Int.{ints, to_z-of_z, fits_signed_from_abs}
 use Rattle.std.proofs.lemmas.Nat.{mul-le}
@@ -40,7 +40,7 @@ weighted_back w c f g few s ef eg =
     let most : unsigned_abs (pos w *ℤ c) ≤ 512 * 2 ^ 31 = product_most (pos w) c 512 (2 ^ 31) few short in
     rw (ef, eg, back (pos w) (omega arith), back c (omega arith), back (pos w *ℤ c) (omega arith)) refl
 
--- a weighted number
+-- a number of 32 bits, times its weight
 pub record IsWeighted (w : ℕ) (c : ℤ) : Type 0 where
   pub least : neg_ℤ (pos (w * 2147483648)) ≤ℤ c
   pub most : c ≤ℤ pos (w * 2147483647)
@@ -60,7 +60,7 @@ fits_long w c few p = fits_signed_from_abs w64 c (size_of w c few p)
 pub long_back : (w : ℕ) (c : ℤ) → w ≤ 512 → IsWeighted w c → to_z w64 (of_z w64 c) ≡ c
 long_back w c few p = back c (size_of w c few p)
 
--- the mean of numbers of 32 bits is one
+-- the mean of numbers of 32 bits has 32 bits
 pub mean_short : (c : ℤ) → IsWeighted 512 c → IsOf32Bits (floor_of c 512)
 mean_short (pos n) p = record {
   least = omega (arith, ints, p.least, p.most);
@@ -99,7 +99,7 @@ pub three_fits : (i j k : ℕ) (a b c : ℤ) → i + j + k ≤ 512 → IsWeighte
 three_fits i j k a b c few p q r =
     rw (three_back i j k a b c few p q r) (fits_long (i + j + k) ((a +ℤ b) +ℤ c) few (sum_three i j k a b c p q r))
 
--- four weighted numbers whose weights come to 512
+-- four weighted numbers; the weights add up to 512
 pub record AreWeighted (i j k l : ℕ) (a b c d : ℤ) : Type 0 where
   pub all : i + j + k + l ≡ 512
   pub first : IsWeighted i a
@@ -129,7 +129,7 @@ pub four_fits : (i j k l : ℕ) (a b c d : ℤ) → AreWeighted i j k l a b c d
 four_fits i j k l a b c d p =
     rw (four_back i j k l a b c d p) (fits_long 512 (((a +ℤ b) +ℤ c) +ℤ d) (omega arith) (sum_four i j k l a b c d p))
 
--- the quotient that the code makes
+-- the quotient that the code computes
 pub quotient_is : (i j k l : ℕ) (a b c d q : ℤ) → AreWeighted i j k l a b c d
     → q ≡ int_div_euclid (to_z w64 (of_z w64 (to_z w64 (of_z w64 (to_z w64 (of_z w64 (to_z w64 (of_z w64 a) +ℤ to_z w64 (of_z w64 b))) +ℤ to_z w64 (of_z w64 c))) +ℤ to_z w64 (of_z w64 d)))) (pos 512)
     → q ≡ floor_of (((a +ℤ b) +ℤ c) +ℤ d) 512
@@ -142,7 +142,7 @@ quotient_is i j k l a b c d q p e =
 long_quotient : (m q : ℤ) → IsOf32Bits m → q ≡ m → to_z w64 (of_z w64 q) ≡ m
 long_quotient m q s e = rw e (back m (omega (arith, ints, s.least, s.most)))
 
--- it fits 32 bits
+-- the quotient fits in 32 bits
 pub quotient_fits : (i j k l : ℕ) (a b c d q : ℤ) → AreWeighted i j k l a b c d → q ≡ floor_of (((a +ℤ b) +ℤ c) +ℤ d) 512
     → FitsSigned w32 (to_z w64 (of_z w64 q))
 quotient_fits i j k l a b c d q p e =
@@ -158,6 +158,6 @@ quotient_back i j k l a b c d q p e =
     let short : IsOf32Bits m = mean_short (((a +ℤ b) +ℤ c) +ℤ d) (sum_four i j k l a b c d p) in
     ap (λ v. to_z w32 (of_z w32 v)) (long_quotient m q short e) ∙ to_z-of_z w32 m (short_fits m short)
 
--- the four numbers are weighted ones
+-- sums of equal numbers are equal
 pub same_sum : (a b c d e f g h : ℤ) → a ≡ e → b ≡ f → c ≡ g → d ≡ h → ((a +ℤ b) +ℤ c) +ℤ d ≡ ((e +ℤ f) +ℤ g) +ℤ h
 same_sum a b c d e f g h p q r s = cc

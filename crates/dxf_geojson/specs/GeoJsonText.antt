@@ -1,5 +1,6 @@
--- The text of a page as GeoJSON (RFC 7946, sections 3.1.6 and 3.3). A shape is a polygon: its outer ring runs as its
--- outline does, and the rings of its holes run against theirs. The layout of the lines is our own.
+-- The text of a page as GeoJSON (RFC 7946, sections 3.1.6 and 3.3). A shape is a polygon. Its outer ring has the
+-- direction of its outline, and the rings of its holes have the reverse direction of theirs. The layout of the lines is
+-- our own.
 use Rattle.std.specs.Prelude.{ℕ, List, [], ◌∷◌, ◌++◌, codes, flat_map, reverse}
 use Rattle.std.specs.List.{join_by}
 use Rattle.pt_core.specs.declared.piece.Piece.{Piece}
@@ -14,11 +15,11 @@ use Rattle.dxf_geojson.specs.DxfText.{pixels_text}
 abbrev pub position_text : Point → List ℕ
 position_text p = codes "[" ++ pixels_text p.x ++ codes "," ++ pixels_text p.y ++ codes "]"
 
--- a ring: positions with a comma between two, the last of which is the first one
+-- a ring: positions with a comma between two; the last one is the first one again
 abbrev pub ring_text : List Point → List ℕ
 ring_text points = codes "[" ++ join_by position_text (codes ",") points ++ codes "]"
 
--- the ring of a hole, behind a comma, against the direction of its outline
+-- the ring of a hole, after a comma, in the reverse direction of its outline
 abbrev pub hole_text : List Piece → List ℕ
 hole_text pieces = codes "," ++ ring_text (reverse (chord_points pieces))
 
@@ -29,7 +30,7 @@ feature_text outlines group =
     ++ ring_text (chord_points (outline_at outlines group.outer)) ++ flat_map (λ hole. hole_text (outline_at outlines hole)) group.holes
     ++ codes "]}}"
 
--- a line for each shape, each but the last one with a comma at its end
+-- a line for each shape; each line except the last one ends with a comma
 abbrev pub features_text : List (List Piece) → List Group → List ℕ
 features_text outlines [] = []
 features_text outlines (first ∷ more) =

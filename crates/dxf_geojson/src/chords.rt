@@ -1,12 +1,12 @@
-//! The points of an outline whose curves are replaced by chords.
+//! The points of an outline with its curves replaced by chords.
 ghost use Rattle.std.specs.Prelude.{◌≡◌, ◌+◌, ◌++◌, IfOk, OnOk};
 ghost use Rattle.dxf_geojson.specs.Chords.{chord_points, curve_points, piece_points, points_from};
 
 use crate::mean::mean_point;
 use pt_core::{NoMemory, Piece, Point, end_of, start_of};
 
-/// Makes `points` those of an outline: its start, and then the ends of its lines and chords. The last
-/// one is the start again.
+/// Fills `points` with the points of an outline: its start, and then the ends of its lines and chords. The last point
+/// is the start again.
 pub(crate) fn gather_chords(points: &mut Vec<Point>, pieces: &[Piece]) -> Result<(), NoMemory>
     ensures { IfOk result (λ _. points.new.items ≡ chord_points pieces.now) }
 {
@@ -17,7 +17,7 @@ pub(crate) fn gather_chords(points: &mut Vec<Point>, pieces: &[Piece]) -> Result
     Ok(())
 }
 
-/// Appends the points of pieces, the first of which begins at `start`.
+/// Appends the points of pieces. The first piece begins at `start`.
 fn add_points(points: &mut Vec<Point>, start: Point, pieces: &[Piece]) -> Result<(), NoMemory>
     ensures { OnOk result (points.new.items ≡ points.old.items ++ points_from start pieces.now) }
 {
@@ -45,7 +45,7 @@ fn add_piece(points: &mut Vec<Point>, from: Point, piece: Piece) -> Result<(), N
     Ok(())
 }
 
-/// The points of a curve at one eighth of its parameter, at two, and so on to its end.
+/// The points of a curve at 1/8, 2/8 .. 8/8 of its parameter; the last one is its end.
 fn eighths(start: Point, first: Point, second: Point, end: Point) -> [Point; 8]
     ensures { result ≡ curve_points start first second end }
 {

@@ -1,4 +1,4 @@
-//! A page as a drawing of AutoCAD's interchange format.
+//! A page in AutoCAD's drawing interchange format.
 ghost use Rattle.std.specs.Prelude.{◌≡◌, ◌≤◌, ◌++◌, drop, flat_map, IfOk, OnOk};
 ghost use Rattle.dxf_geojson.specs.DxfText.{all_but_last, dxf_text, polyline_text, vertex_text};
 
@@ -7,7 +7,7 @@ use crate::fixed::write_pixels;
 use pt_core::{NoMemory, Piece, Point, Sequence, Trace, write_text};
 use std::alloc::Global;
 
-/// The document of a page's trace: a closed polyline for each path, in their order.
+/// The document of a page's trace: a closed polyline for each path, in the order of the paths.
 ///
 /// Coordinates are in pixels, rounded to thousandths.
 pub fn dxf(alloc: Global, trace: &Trace) -> Result<Vec<u8>, NoMemory>
@@ -21,7 +21,7 @@ pub fn dxf(alloc: Global, trace: &Trace) -> Result<Vec<u8>, NoMemory>
     Ok(out)
 }
 
-/// Appends a polyline for each outline; `points` is room for the points of one.
+/// Appends a polyline for each outline. `points` is a buffer for the points of one outline.
 fn put_polylines(
     out: &mut Vec<u8>,
     points: &mut Vec<Point>,
@@ -50,7 +50,7 @@ fn put_polyline(
     Ok(())
 }
 
-/// Appends a vertex for each of these points but the last.
+/// Appends a vertex for each point except the last one.
 fn put_vertices(out: &mut Vec<u8>, points: &[Point]) -> Result<(), NoMemory>
     ensures { OnOk result (out.new.items ≡ out.old.items
         ++ flat_map vertex_text (all_but_last points.now)) }
@@ -64,7 +64,7 @@ fn put_vertices(out: &mut Vec<u8>, points: &[Point]) -> Result<(), NoMemory>
     Ok(())
 }
 
-/// Appends a vertex; `text` is room for one.
+/// Appends a vertex. `text` is a buffer for the text of one vertex.
 #[inline(always)]
 fn put_vertex(out: &mut Vec<u8>, text: &mut [u8; 80], at: Point) -> Result<(), NoMemory>
     ensures { OnOk result (out.new.items ≡ out.old.items ++ vertex_text at) }
@@ -74,7 +74,7 @@ fn put_vertex(out: &mut Vec<u8>, text: &mut [u8; 80], at: Point) -> Result<(), N
     Ok(())
 }
 
-/// Writes a vertex at the end of the buffer.
+/// Writes a vertex to the end of the buffer. Returns the index at which its text starts.
 #[inline(always)]
 fn write_vertex(at: Point, text: &mut [u8; 80]) -> usize
     ensures before { result ≤ 80 }

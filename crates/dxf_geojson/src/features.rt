@@ -1,4 +1,4 @@
-//! A page as a collection of GeoJSON's features.
+//! A page as a collection of GeoJSON features.
 ghost use Rattle.std.specs.Prelude.{◌≡◌, ◌≤◌, ◌++◌, codes, drop, flat_map, IfOk, OnOk};
 ghost use Rattle.std.specs.List.{join_by};
 ghost use Rattle.pt_core.specs.Outlines.{outline_at};
@@ -9,11 +9,12 @@ use crate::fixed::write_pixels;
 use pt_core::{Group, NoMemory, Piece, Point, Sequence, Trace, pieces_at, write_text};
 use std::alloc::Global;
 
-/// The document of a page's trace: a polygon for each shape, whose first ring is its outline, and whose other
-/// rings are those of its holes in reverse. Without shapes it is the two lines of an empty collection.
+/// The document of a page's trace: a polygon for each shape. The polygon's first ring is the shape's outline, and its
+/// other rings are the holes in reverse direction. If there are no shapes, the document is the two lines of an empty
+/// collection.
 ///
-/// Coordinates are in pixels, rounded to thousandths. A group's path that has no outline in the trace is
-/// written as an outline of no pieces.
+/// Coordinates are in pixels, rounded to thousandths. A group's path without an outline in the trace is written as an
+/// outline of no pieces.
 pub fn geojson(alloc: Global, trace: &Trace) -> Result<Vec<u8>, NoMemory>
     ensures { IfOk result (λ text. text.items ≡ geojson_text trace.now) }
 {
@@ -29,11 +30,11 @@ pub fn geojson(alloc: Global, trace: &Trace) -> Result<Vec<u8>, NoMemory>
     Ok(lines.out)
 }
 
-/// The lines of a document so far.
+/// The part of a document that is written already.
 #[derive(Drop)]
 struct Lines {
     out: Vec<u8>,
-    /// Room for the points of a ring.
+    /// A buffer for the points of a ring.
     points: Vec<Point>,
 }
 
@@ -54,7 +55,7 @@ impl Lines {
         Ok(())
     }
 
-    /// Appends shapes, each on a line of its own behind a comma.
+    /// Appends shapes, each on a new line after a comma.
     fn put_more(&mut self, outlines: &[Sequence<Piece>], groups: &[Group]) -> Result<(), NoMemory>
         ensures { OnOk result (self.new.out.items
             ≡ self.old.out.items ++ flat_map (λ group. codes ",\n"
@@ -81,7 +82,7 @@ impl Lines {
         Ok(())
     }
 
-    /// Appends the rings of the holes of these numbers.
+    /// Appends the rings of the holes with these indices.
     fn put_holes(&mut self, outlines: &[Sequence<Piece>], holes: &[u32]) -> Result<(), NoMemory>
         ensures { OnOk result (self.new.out.items
             ≡ self.old.out.items ++ flat_map (λ hole. hole_text (outline_at outlines.now hole)) holes.now) }
@@ -92,7 +93,7 @@ impl Lines {
         Ok(())
     }
 
-    /// Appends the ring of a hole, against the direction of its outline.
+    /// Appends the ring of a hole, in the reverse direction of its outline.
     fn put_hole(&mut self, pieces: &[Piece]) -> Result<(), NoMemory>
         ensures { OnOk result (self.new.out.items ≡ self.old.out.items ++ hole_text pieces.now) }
     {
@@ -129,7 +130,7 @@ fn put_positions(out: &mut Vec<u8>, points: &[Point]) -> Result<(), NoMemory>
     Ok(())
 }
 
-/// Appends a position; `text` is room for one and a comma.
+/// Appends a position. `text` is a buffer for the text of one position and a comma.
 fn put_position(out: &mut Vec<u8>, text: &mut [u8; 64], at: Point) -> Result<(), NoMemory>
     ensures { OnOk result (out.new.items ≡ out.old.items ++ position_text at) }
 {
@@ -148,7 +149,7 @@ fn put_next_position(out: &mut Vec<u8>, text: &mut [u8; 64], at: Point) -> Resul
     Ok(())
 }
 
-/// Writes a position at the end of the buffer.
+/// Writes a position to the end of the buffer. Returns the index at which its text starts.
 #[inline(always)]
 fn write_position(at: Point, text: &mut [u8; 64]) -> usize
     ensures start { 1 ≤ result }

@@ -4,7 +4,8 @@ ghost use Rattle.dxf_geojson.specs.DxfText.{pixels_text};
 
 use pt_core::{round_unit, write_fixed};
 
-/// Writes a coordinate in pixels, rounded to thousandths, so that it ends at `end` of the buffer.
+/// Writes a coordinate in pixels, rounded to thousandths, into the buffer, so that it ends at index `end`. `c` is in
+/// units of 1/1024 pixel. Returns the index at which the text starts.
 #[inline(always)]
 pub(crate) fn write_pixels(c: i32, text: &mut [u8], end: usize) -> usize
     requires room { 25 ≤ end }

@@ -1,8 +1,8 @@
-//! A page's outlines as polygons, for programs that know no curves: AutoCAD's drawing interchange
-//! files (DXF), and GeoJSON (RFC 7946).
+//! Writes a page's outlines as polygons, for programs without curves: AutoCAD's drawing interchange files (DXF), and
+//! GeoJSON (RFC 7946).
 //!
-//! A curve is replaced by eight chords between points on it. Coordinates are pixels with three
-//! decimals, and y grows upwards.
+//! A curve is replaced by eight chords between points on it. Coordinates are in pixels with three decimals, and y grows
+//! upwards.
 #![tactic(auto)]
 
 mod chords;

@@ -4,9 +4,9 @@ ghost use Rattle.dxf_geojson.specs.Chords.{mean_of, mean_point};
 
 use pt_core::Point;
 
-/// The mean of four points with these weights, which come to 512, rounded down.
+/// The mean of four points with these weights, rounded down. The weights add up to 512.
 //
-// A weighted mean of four 32-bit numbers is one, so no bound on coordinates is asked.
+// A weighted mean of four 32-bit numbers is a 32-bit number, so coordinates need no bound.
 pub(crate) fn mean_point(
     i: u32,
     j: u32,
@@ -26,7 +26,7 @@ pub(crate) fn mean_point(
     }
 }
 
-/// The same of four coordinates.
+/// The mean of four coordinates with these weights, rounded down. The weights add up to 512.
 fn mean(i: u32, j: u32, k: u32, l: u32, a: i32, b: i32, c: i32, d: i32) -> i32
     requires { i + j + k + l ≡ 512 }
     ensures { result ≡ mean_of i j k l a b c d }

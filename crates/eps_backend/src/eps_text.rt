@@ -1,4 +1,4 @@
-//! The document of a page, and a page of a document of several.
+//! The document of a page, and a page in a document of several.
 ghost use Rattle.std.specs.Prelude.{◌≡◌, ◌≤◌, ◌++◌, IfOk, OnOk, codes, decimal};
 ghost use Rattle.eps_backend.specs.EpsText.{comments_text, drawing_text, eps_text, ps_page_text, scale_text};
 
@@ -7,11 +7,10 @@ use outline_pen::put_groups;
 use pt_core::{NoMemory, Settings, Trace, put_number};
 use std::alloc::Global;
 
-/// The document of a page's trace: each shape is filled with its holes left out, by the even-odd rule.
+/// The document of a page's trace. Each shape is filled by the even-odd rule, which leaves its holes out.
 ///
-/// Coordinates are rounded to units, of which a pixel has `settings.unit`, and the page is as many
-/// points wide and high as it has pixels. A group's path that has no outline in the trace is drawn as
-/// an outline of no pieces.
+/// Coordinates are rounded to whole units, and a pixel has `settings.unit` units. The page is one point wide and high
+/// for each pixel. A group's path without an outline in the trace is drawn as an outline of no pieces.
 pub fn eps(alloc: Global, trace: &Trace, settings: &Settings) -> Result<Vec<u8>, NoMemory>
     requires some { 1 ≤ settings.now.unit }
     requires most { settings.now.unit ≤ 1000 }
@@ -24,9 +23,9 @@ pub fn eps(alloc: Global, trace: &Trace, settings: &Settings) -> Result<Vec<u8>,
     Ok(out)
 }
 
-/// The page of a page's trace in a document of several, which has what surrounds its pages.
+/// A page's trace as one page of a PostScript document. The caller writes what surrounds the pages.
 ///
-/// Shapes and coordinates are those of the page's own document.
+/// The shapes and coordinates are the same as in the document that `eps` writes.
 pub fn ps_body(alloc: Global, trace: &Trace, settings: &Settings) -> Result<Vec<u8>, NoMemory>
     requires some { 1 ≤ settings.now.unit }
     requires most { settings.now.unit ≤ 1000 }
@@ -48,7 +47,7 @@ fn put_comments(out: &mut Vec<u8>, width: u32, height: u32) -> Result<(), NoMemo
     Ok(())
 }
 
-/// Appends the upper right corner of the box.
+/// Appends the upper right corner of the bounding box.
 fn put_corner(out: &mut Vec<u8>, width: u32, height: u32) -> Result<(), NoMemory>
     ensures { OnOk result (out.new.items
         ≡ out.old.items ++ (decimal width ++ codes " " ++ decimal height)) }
@@ -59,7 +58,7 @@ fn put_corner(out: &mut Vec<u8>, width: u32, height: u32) -> Result<(), NoMemory
     Ok(())
 }
 
-/// Appends how many units a pixel has.
+/// Appends the line that sets the scale: a pixel has `unit` units.
 fn put_scale(out: &mut Vec<u8>, unit: u32) -> Result<(), NoMemory>
     ensures { OnOk result (out.new.items ≡ out.old.items ++ scale_text unit) }
 {
@@ -69,7 +68,7 @@ fn put_scale(out: &mut Vec<u8>, unit: u32) -> Result<(), NoMemory>
     Ok(())
 }
 
-/// Appends what draws a page.
+/// Appends the commands that draw a page.
 fn put_drawing(out: &mut Vec<u8>, unit: u32, trace: &Trace) -> Result<(), NoMemory>
     requires some { 1 ≤ unit }
     requires most { unit ≤ 1000 }

@@ -1,7 +1,7 @@
-//! A page's outlines as Encapsulated PostScript.
+//! Writes a page's outlines as Encapsulated PostScript.
 //!
-//! A path begins at the end of its last piece, and goes on by steps relative to the point before
-//! (`rlineto`) or to the curve's beginning (`rcurveto`). A shape and its holes are filled together.
+//! A path begins at the end of its last piece. Lines (`rlineto`) are relative to the point before, and curves
+//! (`rcurveto`) relative to their own start. A shape and its holes are filled together.
 //!
 //! ```text
 //! 40 80 moveto

@@ -3,7 +3,7 @@ ghost use Rattle.std.specs.Prelude.{◌≡◌};
 
 use outline_pen::{Mark, Pen};
 
-/// Fills each shape with its holes left out.
+/// Fills each shape except its holes.
 pub(crate) struct EpsPen;
 
 impl Pen for EpsPen {

@@ -1,3 +1,4 @@
-pub mod Finding
+-- Lemmas about files and documents in memory.
+pub mod FirstFiles
 pub mod Places
-pub mod Shelving
+pub mod ShelfBytes

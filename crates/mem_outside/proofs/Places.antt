@@ -1,4 +1,4 @@
--- Where the documents on a shelf stand, counted in their order.
+-- The positions of the documents on a shelf, in order.
 use Rattle.std.proofs.Common.{◌≡◌, ℕ, zero, suc, ◌-◌, Bool, true, false, List, [], ◌∷◌, ◌++◌, length, map, take, drop, get_or, Option, None, Some, IfSome, refl, sym, ◌∙◌, ap, length-drop, arith}
 use Rattle.std.specs.List.{slice_get}
 use Rattle.std.proofs.lemmas.List.{take_all}
@@ -6,7 +6,7 @@ use Rattle.pt_core.specs.Documents.{Document, as_list}
 use Rattle.mem_outside.specs.Shelf.{document_at, open_at}
 use Rattle.mem_outside.specs.declared.shelf.ShelfPlace.{ShelfPlace}
 
--- the open document's place
+-- the position of the open document
 abbrev pub open_place : ℕ → ℕ → ℕ → ShelfPlace
 open_place start middle end = record { start = start; middle = middle; end = end }
 
@@ -31,7 +31,7 @@ pub place_is : (is_open : Bool) (start middle : ℕ) (bytes : List ℕ) (places 
 place_is is_open start middle bytes places i =
     listed_is bytes (open_place start middle (length bytes)) (open_at is_open start middle bytes) (open_is is_open start middle bytes) places i
 
--- a fact about what is there
+-- a fact about an optional value and its image
 pub IfSome-is : (A B : Type 0) (f : A → B) (o : Option A) (a : A) (b : B) → b ≡ f a → IfSome o (λ d. d ≡ a) → IfSome o (λ d. b ≡ f d)
 IfSome-is A B f None a b e h = tt
 IfSome-is A B f (Some d) a b e h = e ∙ ap f (sym h)

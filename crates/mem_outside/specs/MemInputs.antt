@@ -7,7 +7,8 @@ use Rattle.mem_outside.specs.declared.mem_inputs.InCall.{InCall}
 use Rattle.mem_outside.specs.declared.mem_inputs.InCall.TheVariants.{Open, Read}
 use Rattle.mem_outside.specs.declared.mem_inputs.NamedBytes.{NamedBytes}
 
--- the files, the most bytes a read gives, the calls that are to fail, the calls so far and the faults so far
+-- the files, the most bytes that a read returns, the calls that are to fail, and the numbers of calls and of faults
+-- until now
 pub record InputsState : Type 0 where
   pub files : Files
   pub most : ℕ
@@ -24,45 +25,45 @@ name_of file = string_bytes file.name
 abbrev pub entry_of : NamedBytes → List ℕ × List ℕ
 entry_of file = (string_bytes file.name, file.bytes.items)
 
--- from names to bytes
+-- the map from names to bytes
 abbrev pub contents_of : List NamedBytes → Contents
 contents_of files = from_entries (map entry_of files)
 
--- the file at a place of the list, without its first bytes
+-- the file at an index of the list, without its first bytes
 abbrev pub opened_at : List NamedBytes → ℕ → ℕ → Option Opened
 opened_at [] at offset = None
 opened_at (file ∷ files) zero offset = Some (record { name = string_bytes file.name; rest = drop offset file.bytes.items })
 opened_at (file ∷ files) (suc at) offset = opened_at files at offset
 
--- the bytes of the file at a place of the list
+-- the bytes of the file at an index of the list
 abbrev pub bytes_at : List NamedBytes → ℕ → List ℕ
 bytes_at [] at = []
 bytes_at (file ∷ files) zero = file.bytes.items
 bytes_at (file ∷ files) (suc at) = bytes_at files at
 
--- there is a file at the place, and it has as many bytes as are read
+-- there is a file at the index, and the offset is within it
 pub record IsReached (files : List NamedBytes) (at offset : ℕ) : Type 0 where
   pub place : at < length files
   pub offset_within : offset ≤ length (bytes_at files at)
 
--- the opened file, if there is one
+-- the open file, if there is one
 abbrev pub opened_of : List NamedBytes → Bool → ℕ → ℕ → Option Opened
 opened_of files is_opened at offset = cond is_opened (opened_at files at offset) None
 
--- the name is none of these
+-- no file of the list has this name
 abbrev pub IsNoneOf : List ℕ → List NamedBytes → Type 0
 IsNoneOf name [] = Unit {0}
 IsNoneOf name (file ∷ files) = (name ≢ name_of file) × IsNoneOf name files
 
--- no two files have one name
+-- all files have different names
 abbrev pub HaveOwnNames : List NamedBytes → Type 0
 HaveOwnNames [] = Unit {0}
 HaveOwnNames (file ∷ files) = IsNoneOf (name_of file) files × HaveOwnNames files
 
--- the next call of open fails, where there is a file of the name: it is listed
+-- the next call of open is listed, so it fails if there is a file with the name
 abbrev pub IsOpenDue : InputsState → Type 0
 IsOpenDue s = Contains s.fails (Open (next_count s.opens))
 
--- the next call of read fails: it is listed
+-- the next call of read is listed, so it fails
 abbrev pub IsReadDue : InputsState → Type 0
 IsReadDue s = Contains s.fails (Read (next_count s.reads))

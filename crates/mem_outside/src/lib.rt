@@ -1,4 +1,5 @@
-//! The outside in memory: inputs, outputs and a sink that tell what they hold, and fail where a test asks for it.
+//! Inputs, outputs and a sink in memory, for tests. Contracts see what they hold, and they fail at the calls that a
+//! test lists.
 #![tactic(auto)]
 
 pub mod mem_inputs;

@@ -1,4 +1,4 @@
-//! Inputs in memory, for tests: files that can be named, and faults on demand.
+//! Inputs in memory, for tests: files with names, and faults on demand.
 ghost use Rattle.std.specs.Prelude.{◌≡◌, ◌+◌, ◌-◌, ◌^◌, ◌<◌, ◌≤◌, ◌↔◌, ◌++◌, ◌∷◌, [], Some, None, true, false, length, take, drop, min, IsTrue, IsSome, IsNone, IfOk, IfSome, IfNone, OnOk, OnErr, IsErr, IsErrOf, is_some, option_map};
 ghost use Rattle.std.specs.FinMap.{get};
 ghost use Rattle.pt_core.specs.Counts.{last_count, next_count};
@@ -15,15 +15,15 @@ pub struct NamedBytes {
     pub bytes: Vec<u8>,
 }
 
-/// A call of `MemInputs` that is to fail: a method, and the number of its call, from 1.
+/// A call of `MemInputs` that is to fail: a method, and the number of its call, counted from 1.
 #[derive(Clone, Copy, Debug, PartialEq, Eq)]
 pub enum InCall {
     Open(u64),
     Read(u64),
 }
 
-/// Inputs in memory, which fail exactly at a listed `read`, and at a listed `open` of a name that
-/// is there.
+/// Inputs in memory. A device fault occurs exactly at each listed `read`, and at each listed `open` of an existing
+/// name. An `open` of another name reports that the file is missing.
 #[derive(Debug, Drop)]
 pub struct MemInputs {
     files: Vec<NamedBytes>,
@@ -64,8 +64,7 @@ impl Model for MemInputs {
 }
 
 impl MemInputs {
-    /// Inputs with these files, which give at most `most` bytes in a call, and whose listed calls
-    /// fail. None is opened.
+    /// Inputs with these files, none of them open. A read returns at most `most` bytes, and the listed calls fail.
     pub fn new(files: Vec<NamedBytes>, most: u32, fails: Vec<InCall>) -> MemInputs
         requires some { 1 ≤ most }
         requires own_names { HaveOwnNames files.items }
@@ -92,7 +91,7 @@ impl MemInputs {
     }
 }
 
-/// The place of the file of this name.
+/// The index of the file with this name.
 fn place_of(files: &[NamedBytes], name: &str) -> Option<usize>
     ensures none { IfNone result (get (contents_of files.now) name.now ≡ None) }
     ensures some { IfSome result (λ at. opened_at files.now at 0
@@ -108,7 +107,7 @@ fn place_of(files: &[NamedBytes], name: &str) -> Option<usize>
     None
 }
 
-/// Copies the bytes of a file from an offset on, at most `most` of them, and answers how many.
+/// Copies at most `most` bytes of a file into `buf`, from an offset on. Returns the number of bytes.
 fn give(files: &[NamedBytes], at: usize, offset: usize, most: usize, buf: &mut [u8]) -> usize
     requires place { at < length files.now }
     requires reached { IsReached files.now at offset }
@@ -124,7 +123,7 @@ fn give(files: &[NamedBytes], at: usize, offset: usize, most: usize, buf: &mut [
     copy_from(file.bytes.as_slice(), offset, most, buf)
 }
 
-/// Copies the bytes from an offset on, at most `most` of them, and answers how many.
+/// Copies at most `most` bytes into `buf`, from an offset on. Returns the number of bytes.
 fn copy_from(bytes: &[u8], offset: usize, most: usize, buf: &mut [u8]) -> usize
     requires within { offset ≤ length bytes.now }
     requires some { 1 ≤ most }
@@ -134,7 +133,7 @@ fn copy_from(bytes: &[u8], offset: usize, most: usize, buf: &mut [u8]) -> usize
     copy_front(&bytes[offset..], most, buf)
 }
 
-/// Copies the first bytes, at most `most` of them, and answers how many.
+/// Copies at most `most` of the first bytes into `buf`. Returns the number of bytes.
 fn copy_front(rest: &[u8], most: usize, buf: &mut [u8]) -> usize
     ensures count { result ≡ min (length rest.now) (min most (length buf.new)) }
     ensures same { take result buf.new ≡ take result rest.now }

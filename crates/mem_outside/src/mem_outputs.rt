@@ -1,4 +1,4 @@
-//! Outputs in memory, for tests: documents that can be looked at, and faults on demand.
+//! Outputs in memory, for tests: documents that a test can inspect, and faults on demand.
 ghost use Rattle.std.specs.Prelude.{◌≡◌, ◌+◌, ◌-◌, ◌<◌, ◌≤◌, ◌↔◌, ◌++◌, ◌∷◌, [], Some, None, true, false, length, take, min, IsTrue, IfOk, IfSome, OnOk, OnErr, IsErr, slice_get};
 ghost use Rattle.pt_core.specs.Counts.{last_count, next_count};
 ghost use Rattle.pt_core.specs.Inner.Documents.{no_documents, listed};
@@ -10,7 +10,7 @@ use pt_core::{DeviceFault, NoMemory, Outputs, Sink};
 use std::alloc::Global;
 use std::marker::Model;
 
-/// A call of `MemOutputs` that is to fail: a method, and the number of its call, from 1.
+/// A call of `MemOutputs` that is to fail: a method, and the number of its call, counted from 1.
 #[derive(Clone, Copy, Debug, PartialEq, Eq)]
 pub enum OutCall {
     Begin(u64),
@@ -18,10 +18,10 @@ pub enum OutCall {
     End(u64),
 }
 
-/// Outputs in memory, which fail exactly at a listed call, at a `begin` that passes the room, and
-/// at a `write` that finds no free byte.
+/// Outputs in memory. Each listed call fails, a `begin` beyond the capacity, and a `write` if no byte is free; no other
+/// call does.
 //
-// Memory for the room is taken when they are made, so that writing takes none, as with real files.
+// All memory is allocated when the outputs are made, so that writing allocates none, as with real files.
 #[derive(Debug, Drop)]
 pub struct MemOutputs {
     shelf: Shelf,
@@ -57,8 +57,8 @@ impl Model for MemOutputs {
 }
 
 impl MemOutputs {
-    /// Outputs with room for so many documents, and for so many bytes of their names and texts
-    /// together, which take at most `most` bytes in a call, and whose listed calls fail.
+    /// Outputs with a capacity of this number of documents, and of this number of bytes for their names and texts
+    /// together. A write takes at most `most` bytes, and the listed calls fail.
     pub fn new(
         alloc: Global,
         most: u32,
@@ -92,7 +92,7 @@ impl MemOutputs {
         })
     }
 
-    /// The number of documents, the open one included.
+    /// The number of documents, including the open one.
     pub fn count(&self) -> u32
         ensures { result ≡ length (listed self.now.documents) }
     {

@@ -9,7 +9,7 @@ use std::marker::Model;
 
 /// A sink in memory. It has one document, which has no name and is always open.
 ///
-/// It fails exactly at a listed call and where no byte is free.
+/// Each listed call fails, and each call if no byte is free; no other call does.
 #[derive(Debug, Drop)]
 pub struct MemSink {
     bytes: Vec<u8>,
@@ -43,8 +43,8 @@ impl Model for MemSink {
 }
 
 impl MemSink {
-    /// A sink with room for so many bytes, which takes at most `most` of them in a call, and whose
-    /// calls of `write` with the listed numbers, counted from 1, fail.
+    /// A sink with a capacity of `bytes` bytes. A write takes at most `most` bytes, and the calls of `write` with the
+    /// listed numbers fail, counted from 1.
     pub fn new(alloc: Global, most: u32, fails: Vec<u64>, bytes: u32) -> Result<MemSink, NoMemory>
         requires { 1 ≤ most }
         ensures { IfOk result
@@ -72,7 +72,7 @@ impl MemSink {
         })
     }
 
-    /// The bytes written so far.
+    /// The bytes that were written.
     pub fn text(&self) -> &[u8]
         ensures { result.now ≡ self.now.bytes }
     {
@@ -129,7 +129,7 @@ impl Sink for MemSink {
     ghost ready_is_open = { λ _. refl };
 }
 
-/// Appends bytes for which there is room.
+/// Appends bytes to a vector that has enough capacity for them.
 pub(crate) fn put(bytes: &mut Vec<u8>, piece: &[u8])
     requires { length bytes.old.items + length piece.now ≤ vec_capacity bytes.old }
     ensures items { bytes.new.items ≡ bytes.old.items ++ piece.now }

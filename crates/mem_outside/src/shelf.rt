@@ -1,4 +1,4 @@
-//! Documents in memory for which the room was taken at the start.
+//! Documents in memory that was allocated at the start.
 ghost use Rattle.std.specs.Prelude.{◌≡◌, ◌+◌, ◌-◌, ◌<◌, ◌≤◌, ◌++◌, ◌∷◌, [], None, Some, true, false, length, is_some, IfOk, IfSome, slice_get, slice_index_or, IsTrue, ◌↔◌};
 ghost use Rattle.pt_core.specs.Inner.Documents.{no_documents, listed};
 ghost use Rattle.pt_core.specs.Documents.{grown, as_list};
@@ -8,7 +8,7 @@ use pt_core::NoMemory;
 use std::alloc::Global;
 use std::marker::Model;
 
-/// Where a whole document stands in the buffer: its name, then its text.
+/// The position of a whole document in the buffer: its name, then its text.
 #[derive(Clone, Copy, Debug)]
 pub(crate) struct ShelfPlace {
     pub start: usize,
@@ -16,7 +16,7 @@ pub(crate) struct ShelfPlace {
     pub end: usize,
 }
 
-/// Documents in one buffer, the last of them open or not.
+/// Documents in one buffer. The last one may be open.
 #[derive(Debug, Drop)]
 pub(crate) struct Shelf {
     bytes: Vec<u8>,
@@ -42,6 +42,7 @@ impl Model for Shelf {
 }
 
 impl Shelf {
+    /// An empty shelf with a capacity of this number of documents and bytes. All its memory is allocated here.
     pub fn new(alloc: Global, documents: u32, bytes: u32) -> Result<Shelf, NoMemory>
         ensures { IfOk result (λ shelf. shelf
             ≡ record { documents = no_documents; free_documents = documents; free_bytes = bytes }) }
@@ -59,14 +60,14 @@ impl Shelf {
         })
     }
 
-    /// The number of bytes that are free.
+    /// The number of free bytes.
     pub fn free_bytes(&self) -> usize
         ensures { result ≡ self.now.free_bytes }
     {
         self.room - self.bytes.len()
     }
 
-    /// Whether there is room for one more document.
+    /// Whether there is capacity for one more document.
     pub fn has_room(&self) -> bool
         ensures { IsTrue result ↔ (0 < self.now.free_documents) }
     {
@@ -78,7 +79,7 @@ impl Shelf {
         taken < self.room_for
     }
 
-    /// Adds an open document of this name.
+    /// Adds an open document with this name.
     pub fn begin(&mut self, name: &[u8])
         requires closed { self.old.documents.last_open ≡ None }
         requires room { 0 < self.old.free_documents }
@@ -159,7 +160,7 @@ impl Shelf {
     }
 }
 
-/// Where document i stands; the open one goes on to the end.
+/// The position of document i. The open document reaches to the end of the buffer.
 fn place_at(places: &[ShelfPlace], start: usize, middle: usize, end: usize, i: usize) -> ShelfPlace
     ensures { result ≡ slice_index_or places.now i
         (record { start = start; middle = middle; end = end }) }

@@ -1,4 +1,4 @@
--- Bytes of eight pixels each.
+-- A byte of eight pixels fits in 8 bits and is the byte of the page's text.
 use Rattle.std.proofs.Common.{◌≡◌, ℕ, zero, suc, ◌+◌, ◌-◌, ◌*◌, ◌/◌, ◌^◌, ◌<◌, ◌≤◌, Bool, true, false, List, map, length, get_or, refl, arith, ap, ◌∙◌}
 use Rattle.std.proofs.lemmas.List.FromFn.{fill_by_all, length-map-range_with_len}
 use Rattle.std.proofs.Math.Nat.{pow-le-pow_right}
@@ -13,7 +13,7 @@ bit-most : (b : Bool) → bit b ≤ 1
 bit-most true = omega arith
 bit-most false = omega arith
 
--- so many binary digits
+-- a number of n binary digits is below 2^n
 bits-most : (black : ℕ → Bool) (x n : ℕ) → bits_value black x n + 1 ≤ 2 ^ n
 bits-most black x zero = omega arith
 bits-most black x (suc n) =
@@ -41,7 +41,7 @@ bit_cond false = refl
 zero_added : (x : ℕ) → x + 0 ≡ x
 zero_added x = omega arith
 
--- the same byte as the text's
+-- the byte is the one of the text
 byte_of-is : (black : ℕ → Bool) (x : ℕ) → byte_of black x ≡ byte_from black x
 unfolding byte_of
 byte_of-is black x =

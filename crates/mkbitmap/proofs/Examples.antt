@@ -1,4 +1,4 @@
--- The definitions on two pixels: a dark one and a bright one.
+-- The definitions, computed for two pixels: a dark one and a bright one.
 use Rattle.std.proofs.Common.{◌≡◌, [], ◌∷◌, refl}
 use Rattle.bit_image.specs.PbmText.{row_text}
 use Rattle.mkbitmap.specs.Box.{Gray, gray_of, box_sum}
@@ -9,18 +9,18 @@ use Rattle.mkbitmap.specs.Packing.{padded}
 abbrev pair : Gray
 pair = gray_of 2 1 1 ((0 ∷ 1 ∷ []) ∷ [])
 
--- twice as large: two black pixels and two white ones, in each of the two rows
+-- twice as large: two black and two white pixels in both rows
 upper_row : row_text 4 (padded 4 (λ X. is_black pair 0 2 500000 X 0)) ≡ 192 ∷ []
 upper_row = refl
 
 lower_row : row_text 4 (padded 4 (λ X. is_black pair 0 2 500000 X 1)) ≡ 192 ∷ []
 lower_row = refl
 
--- both pixels stand in each box
+-- each box has both pixels
 whole_box : box_sum pair 1 0 0 ≡ 1
 whole_box = refl
 
--- as large as it was, beside the mean: the left one is black
+-- in the same size, compared with the mean: the left pixel is black
 sharper_row : row_text 2 (padded 2 (λ X. is_black pair 1 1 500000 X 0)) ≡ 128 ∷ []
 sharper_row = refl
 

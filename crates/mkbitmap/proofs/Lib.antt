@@ -1,11 +1,12 @@
-pub mod Adding
-pub mod Raising
-pub mod Filling
-pub mod Placing
+-- Lemmas about sums over boxes, reliefs and the rows of the larger page.
+pub mod BoxSums
+pub mod ReliefBounds
+pub mod FilledLists
+pub mod PixelPlaces
 pub mod Bytes
-pub mod Following
-pub mod Lifting
-pub mod Enlarging
-pub mod Mixing
+pub mod RingRows
+pub mod RaisedReliefs
+pub mod LargerRows
+pub mod Mixtures
 pub mod Order
 pub mod Examples

@@ -1,9 +1,9 @@
--- The rows of the larger page one below another: which rows of the page they are mixed of, and which they need.
+-- Lower rows of the larger page are mixed from lower rows of the page, and need lower ones, up to the last one.
 use Rattle.std.proofs.Common.{◌≡◌, ℕ, suc, ◌+◌, ◌*◌, ◌<◌, ◌≤◌, arith}
 use Rattle.std.proofs.lemmas.Nat.{div_below, le-div}
 use Rattle.mkbitmap.specs.Enlarged.{after_of, need}
-use Rattle.mkbitmap.proofs.Lifting.{need-is}
-use Rattle.mkbitmap.proofs.Placing.{placed}
+use Rattle.mkbitmap.proofs.RaisedReliefs.{need-is}
+use Rattle.mkbitmap.proofs.PixelPlaces.{placed}
 
 pub after-rises : (times X Y : ℕ) → 1 ≤ times → X ≤ Y → after_of times X ≤ after_of times Y
 after-rises times X Y some order = le-div (after_of times X) (2 * Y + 1 + times) (2 * times) (omega arith) (omega (arith, placed times X))

@@ -9,8 +9,9 @@ ghost use Rattle.mkbitmap.specs.declared.limits.TheConstants.{GREATEST_RELIEF};
 ghost use Rattle.pt_core.specs.declared.limits.TheConstants.{LONGEST_SIDE};
 ghost use Rattle.bit_image.specs.PbmText.{row_text};
 
-/// Mixes the reliefs above and below a row of the larger page. The columns of the page are those from
-/// 1 on; before and behind them stand the first one and the last one once more.
+/// Mixes the reliefs of two rows of the page into `mixed`, for a row of the larger page between them. The weight of
+/// `lower` is `part` of `whole`. Column x of the page is entry x + 1 of `mixed`. The first and the last entry repeat
+/// the first and the last column.
 pub(crate) fn mix_row(upper: &[u32], lower: &[u32], part: u32, whole: u32, mixed: &mut [u32])
     requires some { 0 < length upper.now }
     requires same { length lower.now ≡ length upper.now }
@@ -31,13 +32,12 @@ pub(crate) fn mix_row(upper: &[u32], lower: &[u32], part: u32, whole: u32, mixed
     }
 }
 
-/// Where the centre of a pixel of the larger page lies among those of the page.
+/// Where the centre of a pixel of the larger page lies among the centres of the page's pixels, along a row or a column.
 #[derive(Clone, Copy, Debug)]
 pub(crate) struct CentrePlace {
-    /// The first centre behind it, counted from 0: as many columns, or rows, are before it.
+    /// The first centre of the page after it, counted from 0. This is also the number of centres before it.
     pub(crate) after: u32,
-    /// How far it is behind the one before, in units of which a pixel of the page has twice as many as
-    /// it is enlarged times.
+    /// The distance from the previous centre of the page, in units of 1/(2 times) pixel of the page.
     pub(crate) part: u32,
 }
 
@@ -55,7 +55,7 @@ impl CentrePlace {
         }
     }
 
-    /// The place of the next one.
+    /// The place of the next column or row of the larger page.
     fn next(self, times: u32) -> CentrePlace
         requires times { CanEnlarge times }
         requires after { self.after ≤ 65536 }
@@ -76,7 +76,8 @@ impl CentrePlace {
     }
 }
 
-/// Whether the mixture of two neighbours is dark enough.
+/// Whether the mixture of the two entries at `after` and `after + 1` is at most `limit`. The weight of the second one
+/// is `part` of `whole`.
 fn is_dark(mixed: &[u32], after: u32, part: u32, whole: u32, limit: u64) -> bool
     requires within { after + 1 < length mixed.now }
     requires part { part < whole }
@@ -89,7 +90,7 @@ fn is_dark(mixed: &[u32], after: u32, part: u32, whole: u32, limit: u64) -> bool
     left + right <= limit
 }
 
-/// What the pixel in a column adds to its byte. The row has no pixels from `end` on.
+/// The bit of the pixel in column x: 1 if it is black, else 0. The row has no pixels from `end` on.
 fn pixel(mixed: &[u32], place: CentrePlace, times: u32, limit: u64, x: u32, end: u32) -> u32
     requires wide { IsWideEnough times end mixed.now }
     requires place { IsPlaceOf times x place }
@@ -103,8 +104,7 @@ fn pixel(mixed: &[u32], place: CentrePlace, times: u32, limit: u64, x: u32, end:
     }
 }
 
-/// Eight pixels of a row of the larger page as a byte, from a column on. The row has no pixels from
-/// `end` on.
+/// Eight pixels of a row of the larger page as a byte, from a column on. The row has no pixels from `end` on.
 fn byte_at(mixed: &[u32], times: u32, limit: u64, column: u32, end: u32) -> u8
     requires wide { IsWideEnough times end mixed.now }
     requires column { column ≤ LONGEST_SIDE }
@@ -119,7 +119,7 @@ fn byte_at(mixed: &[u32], times: u32, limit: u64, column: u32, end: u32) -> u8
     byte as u8
 }
 
-/// A row of the larger page, packed.
+/// Packs a row of the larger page into bytes. The row has no pixels from `end` on.
 pub(crate) fn pack_row(mixed: &[u32], times: u32, limit: u64, end: u32, row: &mut [u8])
     requires wide { IsWideEnough times end mixed.now }
     requires end { end ≤ LONGEST_SIDE }

@@ -1,4 +1,4 @@
-//! The filter, which goes along a page and holds no more rows of it than a box has.
+//! The filter. It goes along a page row by row, and holds no more rows than a box has.
 ghost use Rattle.std.specs.Prelude.{◌≡◌, ℕ, ◌+◌, ◌*◌, ◌/◌, ◌≤◌, ◌<◌, length, get_or, min, nat_eq, nat_lt, [], IfOk, vec_len};
 ghost use Rattle.pt_core.specs.declared.limits.TheConstants.{LONGEST_SIDE};
 ghost use Rattle.mkbitmap.specs.Box.{Gray};
@@ -32,14 +32,15 @@ impl Model for Slot {
 }
 
 impl Slot {
-    /// The samples.
+    /// The samples of the row.
     fn samples(&self) -> &[u16]
         ensures { result.now ≡ self.now }
     {
         &self.samples
     }
 
-    /// Keeps the samples of the row that comes, none brighter than white, and adds them to the columns' sums.
+    /// Stores the samples of a new row and adds them to the columns' sums. A sample that is brighter than white is
+    /// lowered to white.
     fn keep(&mut self, columns: &mut [u32], row: &[u16], maxval: u16)
         requires whole { length row.now ≡ length columns.old }
         requires room { length self.old ≡ length columns.old }
@@ -60,7 +61,7 @@ impl Slot {
     }
 }
 
-/// So many slots for rows of this width.
+/// `count` slots for rows of this width.
 fn blank_slots(alloc: Global, count: usize, width: usize) -> Result<Vec<Slot>, NoMemory>
     ensures count { IfOk result (λ slots. vec_len slots ≡ count) }
     ensures width { IfOk result (λ slots. (k : ℕ) → k < count
@@ -74,7 +75,8 @@ fn blank_slots(alloc: Global, count: usize, width: usize) -> Result<Vec<Slot>, N
     Ok(slots)
 }
 
-/// The greatest mixture, raised, of a black pixel, at a level in millionths.
+/// The greatest mixture at which a pixel is black, for a level in millionths of white. The mixture is a raised relief,
+/// in 1/256 of a sample, times the square of `2 * times`.
 pub fn limit(maxval: u16, times: u32, level: u32) -> u64
     requires times { times ≤ GREATEST_TIMES }
     requires level { level ≤ GREATEST_LEVEL }
@@ -84,7 +86,7 @@ pub fn limit(maxval: u16, times: u32, level: u32) -> u64
     (1024 * u64::from(level) + 512000000) * squares / 1000000
 }
 
-/// What is held of a page while its rows come one after another.
+/// The state of the filter between two rows of a page.
 #[derive(Debug, Drop)]
 pub struct Filter {
     width: usize,
@@ -93,16 +95,16 @@ pub struct Filter {
     radius: usize,
     times: u32,
     level: u32,
-    // The greatest mixture, raised, of a black pixel.
+    // The greatest mixture of raised reliefs at which a pixel is black.
     limit: u64,
-    // Row y of the page stands in slot y modulo their number.
+    // Row y of the page is in slot y modulo the number of slots.
     ring: Vec<Slot>,
     // The sum of each column's samples over the rows that are held.
     columns: Vec<u32>,
-    // The reliefs of two rows, raised.
+    // The raised reliefs of two rows of the page.
     upper: Vec<u32>,
     lower: Vec<u32>,
-    // Room for their mixture, and a row of the larger page.
+    // Buffers for the mixture of both rows, and for a row of the larger page.
     mixed: Vec<u32>,
     packed: Vec<u8>,
     taken: u32,
@@ -122,8 +124,8 @@ impl Model for Filter {
 }
 
 impl Filter {
-    /// A filter before the first row of a page with these sides, which is made so many times larger and is
-    /// black up to this level.
+    /// A filter before the first row of a page with these sides. The result is `times` times larger, and it is black at
+    /// samples up to this level, in millionths of white.
     pub fn new(
         alloc: Global,
         width: usize,
@@ -175,14 +177,14 @@ impl Filter {
         })
     }
 
-    /// How many rows the larger page has.
+    /// The number of rows of the larger page.
     pub fn rows(&self) -> u32
         ensures { result ≡ self.now.times * self.now.height }
     {
         self.times * self.height
     }
 
-    /// Whether another row is to be taken before it goes on by a row of the page.
+    /// Whether the filter needs another row of the page before its next step.
     pub fn wants_row(&self) -> bool
         ensures { result ≡ nat_lt self.now.taken
             (min self.now.height (self.now.pairs + self.now.radius + 1)) }
@@ -191,7 +193,7 @@ impl Filter {
         (self.taken as usize) < end.min(self.height as usize)
     }
 
-    /// Takes the next row.
+    /// Takes the next row of the page.
     pub fn take(&mut self, row: &[u16])
         requires whole { length row.now ≡ self.old.width }
         requires wanted { self.old.taken
@@ -205,7 +207,7 @@ impl Filter {
         self.taken += 1;
     }
 
-    /// Makes the reliefs of the next row, raised, in the place of the lower ones.
+    /// Computes the raised reliefs of the next row into `lower`.
     fn raise(&mut self)
         requires { IsRowDue self.old }
         ensures lower { (page : Gray) → HoldsRows page self.old
@@ -226,7 +228,7 @@ impl Filter {
         );
     }
 
-    /// Lets the first row go that the next boxes don't have.
+    /// Drops the first row that is held, if the next boxes don't reach up to it.
     fn let_go(&mut self)
         requires { IsRowDue self.old }
         ensures holds { (page : Gray) → HoldsRows page self.old → HoldsRows page self.new }
@@ -244,7 +246,7 @@ impl Filter {
         self.pairs += 1;
     }
 
-    /// Puts the lower reliefs in the place of the upper ones, too.
+    /// Copies the lower reliefs to the upper ones.
     fn copy_down(&mut self)
         ensures holds { (page : Gray) → HoldsRows page self.old → HoldsRows page self.new }
         ensures upper { self.new.upper ≡ self.old.lower }
@@ -254,7 +256,7 @@ impl Filter {
         self.upper.copy_from_slice(&self.lower);
     }
 
-    /// Makes the reliefs of the first row.
+    /// Computes the reliefs of the first row, as the upper and the lower ones.
     fn begin(&mut self)
         requires first { self.old.pairs ≡ 0 }
         requires due { IsRowDue self.old }
@@ -265,7 +267,7 @@ impl Filter {
         self.let_go();
     }
 
-    /// Makes the reliefs of a row behind the first one.
+    /// Moves the lower reliefs up and computes the reliefs of the next row.
     fn go_on(&mut self)
         requires some { 1 ≤ self.old.pairs }
         requires due { IsRowDue self.old }
@@ -276,7 +278,7 @@ impl Filter {
         self.let_go();
     }
 
-    /// Has the reliefs of the last row twice.
+    /// Uses the reliefs of the last row as the upper and the lower ones.
     fn finish(&mut self)
         requires due { self.old.pairs ≡ self.old.height }
         ensures { StepsOn self.old self.new }
@@ -302,7 +304,7 @@ impl Filter {
         }
     }
 
-    /// Whether the reliefs are those that a row of the larger page lies between.
+    /// Whether row y of the larger page lies between the two rows of the reliefs.
     pub fn is_ready(&self, y: u32) -> bool
         requires { y < self.now.times * self.now.height }
         ensures { result ≡ nat_eq self.now.pairs (after_of self.now.times y + 1) }
@@ -310,7 +312,7 @@ impl Filter {
         self.pairs == CentrePlace::of(self.times, y).after + 1
     }
 
-    /// Makes a row of the larger page.
+    /// Computes row y of the larger page.
     pub fn enlarge(&mut self, y: u32)
         requires row { y < self.old.times * self.old.height }
         requires ready { self.old.pairs ≡ after_of self.old.times y + 1 }
@@ -338,7 +340,7 @@ impl Filter {
         );
     }
 
-    /// The row of the larger page that was made last, packed.
+    /// The row of the larger page that was computed last, packed.
     pub fn row(&self) -> &[u8]
         ensures { result.now ≡ self.now.packed }
     {

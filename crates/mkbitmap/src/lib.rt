@@ -1,15 +1,15 @@
-//! A gray page made sharper and larger, as a bitmap, while its rows come one after another.
+//! Makes a gray page sharper and larger, as a bitmap, row by row.
 //!
-//! Each sample is weighed against the mean of the box around it, so that light that changes slowly over
-//! the page counts no more. What is left, the relief, is mixed between the centres of four pixels, and a
-//! pixel of the larger page is black where the mixture is dark enough.
+//! Each sample is compared with the mean of the box around it, so that slow changes of brightness across the page no
+//! longer matter. The difference is the sample's relief. A pixel of the larger page lies between the centres of four
+//! pixels. Their reliefs are mixed, and the pixel is black if the mixture is dark enough.
 //!
 //! ```text
 //!     the page's rows --> sums of columns --> reliefs of two rows --> rows of the larger page
 //! ```
 //!
-//! A box's sum comes from the one before by a column that comes and one that goes, so a pixel costs the
-//! same for boxes of any size; no more rows are held than a box has.
+//! A box's sum is computed from the previous one by adding one column and subtracting another. So a pixel costs the
+//! same for boxes of any size. No more rows are held than a box has.
 #![tactic(auto)]
 
 mod enlarge;

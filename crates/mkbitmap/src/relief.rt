@@ -1,10 +1,12 @@
-//! How far the samples of a row stand out from the mean of the boxes around them.
+//! Reliefs: how far the samples of a row differ from the means of the boxes around them. A relief is the difference
+//! plus half of white, in units of 1/256 of a sample. A raised relief has half of white added once more, so that it
+//! isn't negative.
 ghost use Rattle.std.specs.Prelude.{◌≡◌, ℕ, ◌+◌, ◌-◌, ◌*◌, ◌≤◌, ◌<◌, length, get_or, if◌then◌else◌, nat_eq};
 ghost use Rattle.mkbitmap.specs.Box.{sum_between, box_from, box_end, box_count};
 ghost use Rattle.mkbitmap.specs.Relief.{raised_by};
 ghost use Rattle.mkbitmap.specs.declared.limits.TheConstants.{GREATEST_MAXVAL, GREATEST_RADIUS, GREATEST_SUM, LARGEST_BOX, LONGEST_BOX};
 
-/// The relief of a sample, raised, where the box around it has this sum and so many pixels.
+/// The raised relief of a sample. The box around it has this sum of samples and this number of pixels.
 fn raised(sample: u32, sum: u32, area: u32, maxval: u32) -> u32
     requires some { 0 < area }
     requires area { area ≤ LARGEST_BOX }
@@ -18,7 +20,7 @@ fn raised(sample: u32, sum: u32, area: u32, maxval: u32) -> u32
     (256 * above / u64::from(area)) as u32
 }
 
-/// The sum with the one of this column, where there is one.
+/// The sum with the sum of this column added, if there is such a column.
 fn with_column(columns: &[u32], at: usize, sum: u32) -> u32
     requires { sum + get_or columns.now at 0 < 4294967296 }
     ensures { result ≡ sum + get_or columns.now at 0 }
@@ -30,7 +32,7 @@ fn with_column(columns: &[u32], at: usize, sum: u32) -> u32
     }
 }
 
-/// The sum of the columns of a box, from that of the box one column to its left.
+/// The sum over the columns of a box around column x. `sum` is that of the box one column further left.
 fn slid(columns: &[u32], x: usize, radius: usize, sum: u32) -> u32
     requires column { x < length columns.now }
     requires radius { radius ≤ GREATEST_RADIUS }
@@ -48,7 +50,7 @@ fn slid(columns: &[u32], x: usize, radius: usize, sum: u32) -> u32
     }
 }
 
-/// The sum of the columns in front of the first box's end.
+/// The sum over the columns before column `radius`, from which the sum of the first box is computed.
 fn first_sum(columns: &[u32], radius: usize) -> u32
     requires radius { radius ≤ GREATEST_RADIUS }
     requires columns { (a : ℕ) → get_or columns.now a 0 ≤ GREATEST_SUM }
@@ -61,7 +63,7 @@ fn first_sum(columns: &[u32], radius: usize) -> u32
     sum
 }
 
-/// The samples of a row as reliefs, raised, where boxes are no larger than pixels.
+/// The raised reliefs of a row's samples for boxes of one pixel, which are the samples themselves.
 fn raise_plainly(samples: &[u16], maxval: u32, relief: &mut [u32])
     requires room { length relief.old ≡ length samples.now }
     requires maxval { maxval ≤ GREATEST_MAXVAL }
@@ -74,7 +76,7 @@ fn raise_plainly(samples: &[u16], maxval: u32, relief: &mut [u32])
     }
 }
 
-/// The reliefs, raised, of the samples of a row, from the sums of the columns over the rows of the boxes.
+/// The raised reliefs of a row's samples, from the sums of the columns over the rows of the boxes.
 pub(crate) fn raise_row(
     columns: &[u32],
     samples: &[u16],

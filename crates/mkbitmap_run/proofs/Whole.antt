@@ -19,10 +19,10 @@ use Rattle.mkbitmap_run.specs.PageHeader.{PageHeader}
 use Rattle.mkbitmap_run.specs.Result.{result_head, result_page, result_row, result_rows, result_text, scan_of}
 use Rattle.mkbitmap_run.specs.FilterRun.{WritesResult, rows_behind}
 use Rattle.mkbitmap_run.specs.Shown.{WritesPage, filtered_page}
-use Rattle.mkbitmap_run.proofs.Breaking.{pos_of}
-use Rattle.mkbitmap_run.proofs.Drawing.{rows_next}
-use Rattle.mkbitmap_run.proofs.Heading.{header_sided}
-use Rattle.mkbitmap_run.proofs.Working.{fits_both}
+use Rattle.mkbitmap_run.proofs.BrokenOff.{pos_of}
+use Rattle.mkbitmap_run.proofs.ResultRows.{rows_next}
+use Rattle.mkbitmap_run.proofs.HeaderEndings.{header_sided}
+use Rattle.mkbitmap_run.proofs.PageWork.{fits_both}
 
 range_more : (a n : ℕ) → range_with_len a (suc n) ≡ range_with_len a n ++ (a + n) ∷ []
 range_more a zero = let e : a ≡ a + 0 = omega arith in ap (λ k. k ∷ []) e
@@ -69,7 +69,7 @@ module _ (setup : Setup) (page : Gray) where
         ∙ sym (flat_map-append row_at (range_with_len 0 Y) (Y ∷ []))
         ∙ ap (flat_map row_at) (sym (range_on Y))
 
-  -- all rows, where there are any
+  -- all rows, if there are any
   all_rows : result_rows setup page page.height high ≡ flat_map row_at (range_with_len 0 high)
   all_rows = by setup.times page.height refl refl
     where
@@ -88,7 +88,7 @@ text_is setup header rows all =
     ap (λ (n : ℕ). result_head setup header ++ result_rows setup (scan_of header rows) n (setup.times * header.height)) all
     ∙ ap (λ (l : List ℕ). result_head setup header ++ l) (all_rows setup (scan_of header rows))
 
--- what was written whole is what the filter makes of the page
+-- a document that was written whole is the filtered page
 pub page_is_written : (setup : Setup) (bytes : List ℕ) (old new : Sinks) → 1 ≤ setup.times → (whole : WritesResult setup bytes old new)
     → WritesPage (filtered_page setup whole.header whole.rest) old new
 page_is_written setup bytes old new some whole =

@@ -29,32 +29,32 @@ use Rattle.mkbitmap.specs.Enlarged.{need}
 abbrev pub filter_name : List ℕ
 filter_name = codes "mkbitmap"
 
--- how the program is used
+-- the text about how the program is used
 abbrev pub filter_usage : List ℕ
 filter_usage = codes "usage: mkbitmap [--box R] [--times N] [--level D]\n"
 
--- what is said of the page
+-- a message about the page
 abbrev pub page_says : List ℕ → List ℕ
 page_says text = file_page_line filter_name dash 1 text
 
--- the document is left open with this text, no call of the outputs failed, and this is said
+-- the document is left open with this text, no call of the outputs failed, and this message was written
 pub record LeavesOpen (text message : List ℕ) (old new : Sinks) : Type 0 where
   pub documents : new.outs.documents ≡ with_open old.outs.documents dash text
   pub still_open : new.is_open ≡ true
   pub went : AllWent old.outs new.outs
   pub says : IsMessage message old.errs new.errs
 
--- at the front of these bytes stands the header of a page whose result isn't too large, and this follows
+-- these bytes begin with the header of a page, followed by `rest`, and the result isn't too large
 pub record HasHead (setup : Setup) (bytes : List ℕ) (header : PageHeader) (rest : List ℕ) : Type 0 where
   pub by_end : Bool
   pub head : page_header bytes ≡ Takes by_end header rest
   pub fits : fits_result setup header.width header.height ≡ true
 
--- the rows of a page that stand behind its header
+-- the rows of a page that follow its header
 abbrev pub rows_behind : PageHeader → List ℕ → List (List ℕ)
 rows_behind header rest = standing (cut_row header) header.height rest
 
--- the page is whole, and its result is written whole
+-- the page is whole, and its result was written whole
 pub record WritesResult (setup : Setup) (bytes : List ℕ) (old new : Sinks) : Type 0 where
   pub header : PageHeader
   pub rest : List ℕ
@@ -70,7 +70,7 @@ pub record RefusesHead (setup : Setup) (bytes : List ℕ) (old new : Sinks) : Ty
       × (fits_result setup header.width header.height ≡ false) × (why ≡ codes "result too large"))
   pub says : OnlySays (page_says why) old new
 
--- a row of the page is refused: the document is open with the rows of the result that those before it are enough for
+-- a row of the page is refused; the document is open with the rows of the result for which the rows before it suffice
 pub record RefusesRow (setup : Setup) (bytes : List ℕ) (old new : Sinks) : Type 0 where
   pub header : PageHeader
   pub rest : List ℕ
@@ -83,20 +83,20 @@ pub record RefusesRow (setup : Setup) (bytes : List ℕ) (old new : Sinks) : Typ
   pub refused : cut_row header left ≡ Stops by_end (Refused kind)
   pub leaves : LeavesOpen (result_text setup header (rows_behind header rest)) (page_says (kind_text kind)) old new
 
--- standard input couldn't be opened, or it is told that there is none; and no file is opened
+-- standard input couldn't be opened or is known to be missing, and no file is open
 pub record CannotOpen (source source_now : Source) : Type 0 where
   pub fails : FailsInput source source_now
   pub closed : source_now.is_opened ≡ false
 
--- standard input was opened once and still is, a read of it failed, and these bytes had been taken
+-- standard input was opened once and still is open, a read of it failed, and these bytes were read before
 pub record StopsTaking (taken : List ℕ) (source source_now : Source) : Type 0 where
   pub opened : source_now.openings ≡ next_count source.openings
   pub still_opened : source_now.is_opened ≡ true
   pub rose : Rose source.faults source_now.faults
   pub has : HasTaken source.files source_now.files taken
 
--- a read failed within a row of the page, which the bytes that were taken leave undecided: the document is open with the
--- rows of the result that those before it are enough for, of which none is by the end of those bytes
+-- a read failed within a row of the page, which the bytes read before don't decide; the document is open with the rows
+-- of the result for which the rows before it suffice, all of them settled
 pub record StopsInRow (setup : Setup) (taken : List ℕ) (old new : Sinks) : Type 0 where
   pub header : PageHeader
   pub rest : List ℕ
@@ -108,7 +108,7 @@ pub record StopsInRow (setup : Setup) (taken : List ℕ) (old new : Sinks) : Typ
   pub undecided : is_by_end (cut_row header left) ≡ true
   pub leaves : LeavesOpen (result_text setup header (settled_rows (cut_row header) header.height rest)) (page_says (codes "read fault")) old new
 
--- these rows of the page stand at the front of what was taken behind its header, and at most 65,536 bytes more were taken
+-- the bytes that were read after the header begin with these rows, and at most 65,536 further bytes were read
 pub record ReadsNearRows (header : PageHeader) (taken : List ℕ) (rows : List (List ℕ)) : Type 0 where
   pub ended : Bool
   pub by_end : Bool
@@ -118,7 +118,8 @@ pub record ReadsNearRows (header : PageHeader) (taken : List ℕ) (rows : List (
   pub leaves : LeavesRows ended (cut_row header) rest rows left
   pub near : length left ≤ 65536
 
--- these rows of the page stand there, and at most 65,536 bytes were taken behind what leaves the next one undecided
+-- the bytes that were read after the header begin with these rows, and at most 65,536 bytes were read after a prefix
+-- that doesn't decide the next row
 pub record ReadsNearNext (header : PageHeader) (taken : List ℕ) (rows : List (List ℕ)) : Type 0 where
   pub ended : Bool
   pub by_end : Bool
@@ -128,13 +129,13 @@ pub record ReadsNearNext (header : PageHeader) (taken : List ℕ) (rows : List (
   pub leaves : LeavesRows ended (cut_row header) rest rows left
   pub near : ReachesNear (cut_row header) left
 
--- the bytes that were taken of standard input, where it is told, are such ones
+-- P holds for the bytes that were read of standard input
 pub record HasTakenSo (P : List ℕ → Type 0) (source source_now : Source) : Type 0 where
   pub taken : List ℕ
   pub has : HasTaken source.files source_now.files taken
   pub so : P taken
 
--- a page of this header whose first rows are these
+-- a page with this header begins with these rows
 pub record HasFirstRows (header : PageHeader) (rows : List (List ℕ)) (page : Gray) : Type 0 where
   pub width : page.width ≡ header.width
   pub height : page.height ≡ header.height
@@ -150,21 +151,23 @@ rows_above setup page Y = result_rows setup page page.height Y
 abbrev pub need_of : Setup → PageHeader → ℕ → ℕ
 need_of setup header Y = need header.height setup.radius setup.times Y + 1
 
--- the open document has all rows above row Y and a front of that row more, whatever page begins with these rows
+-- for every page that begins with these rows, all rows above row Y and a prefix of row Y were appended to the open
+-- document
 abbrev pub PutsFront : Setup → PageHeader → List (List ℕ) → ℕ → Option Documents → Option Documents → Type 0
 PutsFront setup header rows Y old new =
     (page : Gray) → HasFirstRows header rows page → (n : ℕ) × (n ≤ length (result_row setup page Y))
     × (new ≡ with_bytes old (rows_above setup page Y ++ take n (result_row setup page Y)))
 
--- the document was cut off: before a row of the page was read, within its head; or within row Y, and no more rows were read
--- than that one needs
+-- the document was cut off: within its beginning, before a row of the page was read; or within row Y, after only the
+-- rows that row Y needs were read
 abbrev pub IsCutAt : Setup → PageHeader → List (List ℕ) → Option Documents → Option Documents → Type 0
 IsCutAt setup header rows old new =
     ((rows ≡ []) × IsCutOff old new dash (result_head setup header))
     ⊎ ((Y : ℕ) × (Y < setup.times * header.height) × (length rows ≡ need_of setup header Y)
     × PutsFront setup header rows Y (with_open old dash (result_head setup header)) new)
 
--- a call of the outputs failed: the document is cut off, and no more of the page was read than its last row needs
+-- a call of the outputs failed: the document is cut off, and only the rows of the page that its last row needs were
+-- read
 pub record CutsResult (setup : Setup) (source source_now : Source) (old new : Sinks) : Type 0 where
   pub taken : List ℕ
   pub more : List ℕ
@@ -180,7 +183,7 @@ pub record CutsResult (setup : Setup) (source source_now : Source) (old new : Si
   pub broke : BrokeOff old.outs new.outs
   pub says : IsMessage (file_line filter_name dash (codes "write fault")) old.errs new.errs
 
--- what was done of the page on standard input in a run that ends so
+-- what a run has done with the page on standard input if it ends with this status
 abbrev pub HasFiltered : Setup → Status → Source → Source → Sinks → Sinks → Type 0
 HasFiltered setup status.Done source source_now old new =
     (bytes : List ℕ) × TakesInput bytes source source_now × (whole : WritesResult setup bytes old new)
@@ -204,16 +207,16 @@ HasFiltered setup status.OutOfMemory source source_now old new =
 -- all that a run does with the page on standard input
 pub record IsPageRun (setup : Setup) (end : Status) (source source_now : Source) (old new : Sinks) : Type 0 where
   pub outcome : HasFiltered setup end source source_now old new
-  -- where standard input is told and isn't there, it is unread; and where it is there and no device failed, the run ends as
-  -- its bytes say, or memory ran out
+  -- if standard input is known to be missing, the run ends as unread; if it is known to be there and no device failed,
+  -- the run ends as its bytes decide or runs out of memory
   pub missing : Lacks source.files dash → end ≡ status.Unread
   pub complete : (bytes : List ℕ) → TellsInput source.files bytes → (Rose source.faults source_now.faults → ⊥)
       → (Rose old.outs.faults new.outs.faults → ⊥) → (end ≡ page_ending setup bytes) ⊎ (end ≡ status.OutOfMemory)
-  -- a fault of the outputs is told
+  -- a fault of the outputs shows in the status
   pub unwritten : old.outs.faults < new.outs.faults → end ≡ status.Unwritten
 
--- all that a run does that is given these words: they ask for help, or for a page; or they ask for nothing, or memory ran out
--- before they were read
+-- all that a run does that is started with these arguments: they ask for help or for a page, or the program doesn't
+-- accept them, or memory ran out before they were read
 abbrev pub IsFilterRun : List (List ℕ) → Status → Source → Source → Sinks → Sinks → Type 0
 IsFilterRun words end source source_now old new =
     (IsFilterAsked words Help × (source_now ≡ source) × PutsText filter_name status.Done filter_usage end old new)

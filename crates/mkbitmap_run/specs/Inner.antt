@@ -1,4 +1,4 @@
--- What inner contracts alone speak of: no promise rests on it.
+-- Definitions that only inner contracts use. No promise rests on them.
 pub mod FilterRun
 pub mod FilterWork
 pub mod Head

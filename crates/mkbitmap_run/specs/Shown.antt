@@ -12,12 +12,12 @@ use Rattle.mkbitmap_run.specs.PageHeader.{PageHeader}
 use Rattle.mkbitmap_run.specs.FilterRun.{rows_behind}
 use Rattle.mkbitmap_run.specs.Result.{result_page, scan_of}
 
--- what the filter makes of a page with this header and these bytes behind it
+-- the result of filtering a page with this header and these bytes after it
 abbrev pub filtered_page : Setup → PageHeader → List ℕ → Page
 filtered_page setup header rest = result_page setup (scan_of header (rows_behind header rest))
 
--- the raw PBM text of this page was written whole: a reader of pages finds one page in it, which takes all of its bytes
--- and is this one at every level
+-- the raw PBM text of this page was written whole; a reader of pages finds one page in it, which takes all of its bytes
+-- and is this page at every level
 pub record WritesPage (page : Page) (old new : Sinks) : Type 0 where
   pub is_page : IsPage page
   pub writes : Writes (pbm_text page) old new

@@ -1,11 +1,11 @@
-//! Why the document isn't whole.
+//! Why writing a document stopped early.
 
 use bitmap_input::InFault;
 
-/// Why the document isn't whole.
+/// Why writing the document stopped early.
 #[derive(Clone, Copy, Debug, PartialEq, Eq)]
 pub(crate) enum Break {
-    /// A row of the page isn't there.
+    /// A row of the page couldn't be read.
     Input(InFault),
     /// A call of the outputs failed.
     Output,

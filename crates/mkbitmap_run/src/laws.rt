@@ -17,7 +17,8 @@ pub fn whole_results_are_pbm_texts()
         → result_text setup header rows ≡ pbm_text (result_page setup (scan_of header rows)) }
 {}
 
-/// What a run writes whole is one page for a reader of pages: what the filter makes of the page on standard input.
+/// A document that a run writes whole shows a reader of pages exactly one page: the result of filtering the page on
+/// standard input.
 pub fn whole_results_show_their_pages()
     ensures { (words : List (List ℕ)) (setup : Setup) (bytes : List ℕ) (old new : Sinks)
         → IsFilterAsked words (Page setup) → (whole : WritesResult setup bytes old new)

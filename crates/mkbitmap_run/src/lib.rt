@@ -1,7 +1,7 @@
-//! The run of `mkbitmap`: a gray page on standard input, made sharper and larger, is a bitmap on standard output.
+//! The run of `mkbitmap`: it reads a gray page from standard input and writes it, sharper and larger, to standard
+//! output as a bitmap.
 //!
-//! The page's rows come one after another, and a row of the result is written as soon as those that it is made of were
-//! read:
+//! The page is read row by row. A row of the result is written as soon as the rows that it depends on were read:
 //!
 //! ```text
 //!     standard input --> reader --> filter --> standard output

@@ -20,7 +20,7 @@ use pt_core::{Inputs, LONGEST_SIDE, Outputs, Sink};
 use run_output::{Status, say_of_file, say_of_file_page};
 use std::alloc::Global;
 
-/// Filters the page on standard input, or says why not.
+/// Filters the page on standard input, or reports why that isn't possible.
 pub(crate) fn filter_input<I: Inputs, O: Outputs, E: Sink>(
     alloc: Global,
     setup: Setup,
@@ -51,9 +51,9 @@ pub(crate) fn filter_input<I: Inputs, O: Outputs, E: Sink>(
     }
 }
 
-/// Reads the head of the page.
+/// Reads the header of the page.
 ///
-/// The reader's own call says more of it, and in more clauses, than a run needs.
+/// It has the part of the contract of `GrayReader::head` that a run needs, in fewer clauses.
 fn read_head<I: Inputs>(reader: &mut GrayReader, inputs: &mut I) -> Result<GrayHead, InFault>
     requires opened { I.is_opened inputs.old ≡ true }
     requires first { reader.old ≡ gray_at_start }
@@ -70,7 +70,7 @@ fn read_head<I: Inputs>(reader: &mut GrayReader, inputs: &mut I) -> Result<GrayH
     Ok(head)
 }
 
-/// Filters the page whose head was read, or says why not.
+/// Filters the page after its header was read, or reports why that isn't possible.
 fn filter_page<I: Inputs, O: Outputs, E: Sink>(
     alloc: Global,
     setup: Setup,
@@ -104,7 +104,7 @@ fn filter_page<I: Inputs, O: Outputs, E: Sink>(
     }
 }
 
-/// Whether the result isn't too large.
+/// Whether both sides of the result are within the limit.
 fn fits(setup: Setup, head: GrayHead) -> bool
     requires times { setup.times ≤ GREATEST_TIMES }
     requires width { head.width ≤ LONGEST_SIDE }

@@ -1,4 +1,4 @@
-//! The top call: all that the program does.
+//! The top call: a whole run of the program.
 ghost use Rattle.std.specs.Prelude.{◌≡◌, false, true, map, string_bytes};
 ghost use Rattle.run_output.specs.Told.{sinks_of, source_of};
 ghost use Rattle.run_output.specs.Status.{code_of};
@@ -14,14 +14,14 @@ use pt_core::{Inputs, Outputs, Sink};
 use run_output::{Status, say_line, write_document};
 use std::alloc::Global;
 
-/// How the program is used.
+/// The text about how the program is used.
 const USAGE: &[u8] = b"usage: mkbitmap [--box R] [--times N] [--level D]\n";
 
-/// Reads a gray page from standard input, row by row, writes the sharper and larger bitmap to standard output as raw PBM,
-/// and answers the exit status.
+/// Reads a gray page from standard input, row by row, writes the sharper and larger bitmap to standard output as raw
+/// PBM, and returns the exit status.
 ///
-/// A row of the result is written as soon as those of the page that it is made of were read. After a fault of the outputs
-/// nothing more is written to them; where a row of the page isn't there, the document stays open.
+/// A row of the result is written as soon as the rows of the page that it depends on were read. After a fault of the
+/// outputs nothing more is written to them. If a row of the page can't be read, the document stays open.
 pub fn mk_run<I: Inputs, O: Outputs, E: Sink>(
     alloc: Global,
     words: &[String],
@@ -47,7 +47,7 @@ pub fn mk_run<I: Inputs, O: Outputs, E: Sink>(
     }
 }
 
-/// Writes how the program is used.
+/// Writes the text about how the program is used.
 fn put_usage<O: Outputs, E: Sink>(outs: &mut O, errs: &mut E) -> Status
     requires closed { O.is_ready outs.old ≡ false }
     requires ready { E.is_ready errs.old ≡ true }

@@ -1,4 +1,4 @@
-//! What the program says where there is no document.
+//! What the program reports if it writes no whole document.
 ghost use Rattle.std.specs.Prelude.{◌≡◌, codes, true};
 ghost use Rattle.bitmap_input.specs.Inner.FaultText.{fault_text};
 ghost use Rattle.bitmap_input.specs.Reading.{cause_of_fault};
@@ -13,13 +13,13 @@ use bitmap_input::InFault;
 use pt_core::Sink;
 use run_output::{Status, say_line, say_of_file, say_of_file_page};
 
-/// The program's name, as it stands in front of what it says.
+/// The program's name, with which its messages begin.
 pub const NAME: &str = "mkbitmap";
 
-/// What it says where the words aren't its own.
+/// The message about command-line arguments that the program doesn't accept.
 pub const BAD_WORDS: &str = "bad arguments, see mkbitmap -h";
 
-/// Says why a part of the page isn't there.
+/// Reports why a part of the page couldn't be read, and returns the status of that.
 pub(crate) fn say_fault<E: Sink>(errs: &mut E, fault: InFault) -> Status
     requires { E.is_ready errs.old ≡ true }
     ensures ending { result ≡ cause_ending (cause_of_fault fault) }
@@ -34,7 +34,7 @@ pub(crate) fn say_fault<E: Sink>(errs: &mut E, fault: InFault) -> Status
     }
 }
 
-/// Says that memory ran out.
+/// Reports that memory ran out.
 pub(crate) fn say_out_of_memory<E: Sink>(errs: &mut E) -> Status
     requires { E.is_ready errs.old ≡ true }
     ensures ending { result ≡ status.OutOfMemory }
@@ -45,7 +45,7 @@ pub(crate) fn say_out_of_memory<E: Sink>(errs: &mut E) -> Status
     Status::OutOfMemory
 }
 
-/// Says that the document couldn't be written.
+/// Reports that the document couldn't be written.
 pub(crate) fn say_not_written<E: Sink>(errs: &mut E) -> Status
     requires { E.is_ready errs.old ≡ true }
     ensures ending { result ≡ status.Unwritten }

@@ -1,4 +1,4 @@
-//! A page at work: its rows come, and those of the result go.
+//! A page in progress: its rows are read, and the rows of the result are written.
 ghost use Rattle.std.specs.Prelude.{◌≡◌, false, true, IfErr, IfOk, OnOk};
 ghost use Rattle.bitmap_input.specs.Reading.{cause_of_fault};
 ghost use Rattle.run_output.specs.Told.{source_of};
@@ -16,21 +16,22 @@ use pt_base::write_whole;
 use pt_core::{Inputs, NoMemory, Outputs};
 use std::alloc::Global;
 
-/// A page at work, with all memory that it needs.
+/// A page in progress, with all memory that it needs.
 ///
-/// The inputs and the outputs are lent to each step, and not held: so what became of them is seen at once.
+/// The inputs and the outputs are borrowed by each step and not stored. So each step's contract shows what it did to
+/// them.
 #[derive(Debug, Drop)]
 pub(crate) struct Work {
-    /// What the document begins with.
+    /// The beginning of the document.
     head: Vec<u8>,
     reader: GrayReader,
     filter: Filter,
-    /// Room for a row of the page.
+    /// A buffer for a row of the page.
     row: Vec<u16>,
 }
 
 impl Work {
-    /// The page whose head this reader has read.
+    /// Prepares the work on a page. This reader has read the page's header.
     pub(crate) fn new(
         alloc: Global,
         setup: Setup,
@@ -66,10 +67,10 @@ impl Work {
         })
     }
 
-    /// Writes the document: its head, and all rows of the result.
+    /// Writes the document: its beginning, and all rows of the result.
     ///
-    /// After a fault nothing more is written: the document is cut off there. Where a row of the page isn't there, the
-    /// document stays open.
+    /// After a fault nothing more is written, so the document is cut off at that point. If a row of the page can't be
+    /// read, the document stays open.
     pub(crate) fn put_page<I: Inputs, O: Outputs>(
         &mut self,
         inputs: &mut I,
@@ -134,7 +135,7 @@ impl Work {
         Ok(())
     }
 
-    /// Reads rows of the page as far as a row of the result needs them, and writes that one.
+    /// Reads the rows of the page that row y of the result depends on, and writes row y.
     fn put_row<I: Inputs, O: Outputs>(
         &mut self,
         y: u32,
@@ -167,7 +168,8 @@ impl Work {
         }
     }
 
-    /// Reads rows of the page and goes on by them, up to the reliefs that a row of the result lies between.
+    /// Reads rows of the page and steps the filter along, until it has the two rows of reliefs between which row y of
+    /// the result lies.
     fn make_ready<I: Inputs>(&mut self, y: u32, inputs: &mut I) -> Result<(), InFault>
         requires { CanPut y self.old (source_of I.Inputs inputs.old) }
         ensures ready { OnOk result (GetsReady y self.old (I.files inputs.old)

@@ -1,4 +1,4 @@
-//! Pages, words, and failing devices.
+//! Pages, command lines, and failing devices.
 
 mod cases;
 mod failing;

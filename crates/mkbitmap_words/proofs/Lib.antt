@@ -1,1 +1,2 @@
-pub mod Asking
+-- What a command line asks for is what `clap` answers, and it is one thing.
+pub mod FilterAsks

@@ -1,4 +1,5 @@
--- What the words of `mkbitmap` ask for: `--box`, `--times` and `--level`, each at most once, and no file.
+-- What the command line of `mkbitmap` asks for. Its options are `--box`, `--times` and `--level`, each at most once,
+-- and it takes no file name.
 use Rattle.std.specs.Prelude.{◌≡◌, ℕ, ◌≤◌, true, List, [], ◌∷◌, codes, unwrap_or}
 use Rattle.clap.specs.Walk.{Row, first_of}
 use Rattle.clap.specs.Simple.{App, matches_of, new_app}
@@ -12,13 +13,13 @@ use Rattle.mkbitmap_words.specs.declared.ask.FilterAsk.{FilterAsk}
 use Rattle.mkbitmap_words.specs.declared.ask.FilterAsk.TheVariants.{Help, Page}
 use Rattle.mkbitmap_words.specs.declared.setup.Setup.{Setup}
 
--- the program's command: its words come without the program's name, and `-h` and `--help` are in each command
+-- the program's command; its arguments don't include the program's name, and each command has `-h` and `--help`
 abbrev pub filter_command : App
 filter_command =
     with_rules (record (new_app (codes "mkbitmap")) { top = record (new_app (codes "mkbitmap")).top { no_binary_name = true } })
     (long_option (codes "box") ∷ long_option (codes "times") ∷ long_option (codes "level") ∷ [])
 
--- the value of an option, or what stands for it where it is left out
+-- the value of an option, or the default if the option isn't given
 abbrev pub option_text : List ℕ → List ℕ → List Row → List ℕ
 option_text name default rows = unwrap_or (first_of name rows) default
 
@@ -32,12 +33,12 @@ pub record GivesSetup (rows : List Row) (setup : Setup) : Type 0 where
   pub level : IsMicro (option_text (codes "level") (codes "0.45") rows) setup.level
   pub most_level : setup.level ≤ 1000000
 
--- what `clap` found in the words asks for this: they ask for help, or there is no fault and the options give a setup
+-- what `clap` found in the arguments asks for this: for help, or without an error for the setup that the options give
 abbrev pub AsksFilter : Kinds → List Row → FilterAsk → Type 0
 AsksFilter [] rows Help = ⊥
 AsksFilter [] rows (Page setup) = GivesSetup rows setup
 AsksFilter (fault ∷ _) rows ask = (fault ≡ DisplayHelp) × (ask ≡ Help)
 
--- the words ask for this
+-- the command line asks for this
 abbrev pub IsFilterAsked : List (List ℕ) → FilterAsk → Type 0
 IsFilterAsked words ask = AsksFilter (fault_of filter_command words) (matches_of filter_command words) ask

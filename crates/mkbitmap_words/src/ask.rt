@@ -1,4 +1,4 @@
-//! Reading the words.
+//! Reading the command line.
 ghost use Rattle.std.specs.Prelude.{◌≡◌, IfOk, IsErrOf, map, string_bytes};
 ghost use Rattle.mkbitmap_words.specs.Inner.FilterAsked.{CanFilter};
 ghost use Rattle.mkbitmap_words.specs.FilterAsked.{IsFilterAsked};
@@ -8,25 +8,25 @@ use crate::setup::{Setup, setup_of};
 use clap::error::ErrorKind;
 use std::alloc::Global;
 
-/// What the words ask for.
+/// What the command line asks for.
 #[derive(Clone, Copy, Debug, PartialEq, Eq)]
 pub enum FilterAsk {
-    /// How the program is used.
+    /// A description of how the program is used.
     Help,
-    /// A page, filtered so.
+    /// A page, filtered with this setup.
     Page(Setup),
 }
 
-/// Why the words ask for nothing.
+/// Why the command line asks for nothing.
 #[derive(Clone, Copy, Debug, PartialEq, Eq)]
 pub enum AskFault {
-    /// The words aren't the program's.
+    /// The program doesn't accept the arguments.
     Bad,
     /// Memory ran out.
     NoMemory,
 }
 
-/// What the words ask for, which come without the program's name.
+/// What the arguments ask for. They come without the program's name.
 pub fn filter_ask_of(alloc: Global, words: &[String]) -> Result<FilterAsk, AskFault>
     ensures ok { IfOk result (IsFilterAsked (map string_bytes words.now)) }
     ensures bad { IsErrOf result AskFault.Bad

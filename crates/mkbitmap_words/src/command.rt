@@ -1,4 +1,4 @@
-//! The command that `clap` is given.
+//! The command that describes the options to `clap`.
 ghost use Rattle.std.specs.Prelude.{◌≡◌, IfOk, false};
 ghost use Rattle.clap.specs.Simple.{app_of};
 ghost use Rattle.clap.specs.Walk.{rule_of};
@@ -8,7 +8,7 @@ ghost use Rattle.mkbitmap_words.specs.FilterAsked.{filter_command};
 use clap::{Arg, ArgAction, Command};
 use std::alloc::{AllocError, Global};
 
-/// The program's command. Its words come without the program's name.
+/// The program's command. Its arguments don't include the program's name.
 pub(crate) fn filter_command<'a>(alloc: Global) -> Result<Command<'a>, AllocError>
     ensures { IfOk result (λ c. app_of c ≡ filter_command) }
 {

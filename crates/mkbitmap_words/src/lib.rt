@@ -1,4 +1,4 @@
-//! What the words of `mkbitmap` ask for: how the program is used, or how a page is filtered.
+//! What the command line of `mkbitmap` asks for: a description of its use, or a page to be filtered.
 #![tactic(auto)]
 
 pub mod ask;

@@ -1,4 +1,4 @@
-//! How a page is filtered, as the options say.
+//! The setup of the filter, as the options give it.
 ghost use Rattle.std.specs.Prelude.{◌≡◌, ◌≤◌, ℕ, IfNone, IfSome, option_map};
 ghost use Rattle.clap.specs.Matches.{found_of};
 ghost use Rattle.clap.specs.Walk.{first_of, rows_of};
@@ -13,15 +13,15 @@ use pt_base::{read_micro, read_whole};
 /// How a page is filtered.
 #[derive(Clone, Copy, Debug, PartialEq, Eq)]
 pub struct Setup {
-    /// How far the box around a pixel reaches, in pixels.
+    /// The radius of the box around a pixel, in pixels.
     pub radius: u32,
-    /// How many pixels of the result a pixel of the page has along a side.
+    /// The number of pixels of the result for one pixel of the page, along a side.
     pub times: u32,
-    /// How bright a black pixel may be, in millionths of white.
+    /// The brightness up to which a pixel is black, in millionths of white.
     pub level: u32,
 }
 
-/// The setup that the options give, if each value is in its range.
+/// The setup that the options give. `None` if a value is out of its range.
 pub(crate) fn setup_of(matches: &ArgMatches) -> Option<Setup>
     ensures gives { IfSome result (GivesSetup (rows_of (found_of matches.now))) }
     ensures refused { IfNone result ((setup : Setup)
@@ -43,7 +43,7 @@ pub(crate) fn setup_of(matches: &ArgMatches) -> Option<Setup>
     })
 }
 
-/// The value of an option, or what stands for it where it is left out.
+/// The value of an option, or the default if the option isn't given.
 fn text_of<'a>(matches: &ArgMatches<'a>, name: &str, default: &'a str) -> &'a str
     ensures { result.now ≡ option_text name.now default.now (rows_of (found_of matches.now)) }
 {
@@ -53,14 +53,14 @@ fn text_of<'a>(matches: &ArgMatches<'a>, name: &str, default: &'a str) -> &'a st
     }
 }
 
-/// The value of an option, if it stands in the words.
+/// The value of an option, if the option is given.
 fn value_of<'a>(matches: &ArgMatches<'a>, name: &str) -> Option<&'a str>
     ensures { option_map (λ s. s.now) result ≡ first_of name.now (rows_of (found_of matches.now)) }
 {
     matches.get_str(name)
 }
 
-/// A level in millionths.
+/// A level, in millionths. `None` if it is out of its range.
 fn level_of(text: &str) -> Option<u32>
     ensures read { IfSome result (λ n. IsMicro text.now n × (n ≤ GREATEST_LEVEL)) }
     ensures refused { IfNone result ((n : ℕ) → IsMicro text.now n → n ≤ GREATEST_LEVEL → ⊥) }

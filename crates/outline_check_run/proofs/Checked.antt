@@ -1,4 +1,4 @@
--- What status 0 says of the text.
+-- If the exit status is 0, each polygon of the text is the best one for its path.
 use Rattle.std.proofs.Common.{◌≡◌, ℕ, List, inl, inr, sym, subst, arith}
 use Rattle.std.specs.List.{All}
 use Rattle.outline_check.specs.ProofsText.{Certified}
@@ -14,7 +14,7 @@ use Rattle.small_program.specs.ProgramRun.{HasDone, TakesInput}
 use Rattle.small_program.specs.Reply.{IsReply}
 use Rattle.run_output.specs.declared.status.Status.{Status}
 use Rattle.run_output.specs.declared.status.Status.TheVariants as status
-use Rattle.small_program.proofs.Taking.{one_input}
+use Rattle.small_program.proofs.TakenInput.{one_input}
 use Rattle.outline_check_run.specs.Verdict.{IsCheckReply}
 
 module _ (source source_now : Source) (text : List ℕ) (width height : ℕ) (paths : List Certified) (tells : TellsInput source.files text)

@@ -1,2 +1,3 @@
+-- What a run that found all certificates right says of the text.
 pub mod Checked
-pub mod Rechecking
+pub mod RightTexts

@@ -1,2 +1,2 @@
--- What inner contracts alone speak of: no promise rests on it.
+-- Definitions that only inner contracts use. No promise rests on them.
 pub mod OneReply

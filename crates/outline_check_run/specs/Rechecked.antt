@@ -1,4 +1,4 @@
--- Certificates that are right, checked by a run.
+-- Right certificates, checked by a run.
 use Rattle.std.specs.Prelude.{◌≡◌, ℕ, ◌⊎◌, codes}
 use Rattle.pt_core.specs.Counts.{Rose}
 use Rattle.run_output.specs.Told.{Sinks, Source}
@@ -7,8 +7,8 @@ use Rattle.run_output.specs.declared.status.Status.{Status}
 use Rattle.run_output.specs.declared.status.Status.TheVariants as status
 use Rattle.outline_check_run.specs.Verdict.{verdict_line}
 
--- a run ended so whose input is the certificates of so many paths, all right: where no device failed, it is done, or
--- memory ran out; and where it is done, it wrote that so many are right
+-- what holds after a run with right certificates of this number of paths as its input: if no device failed, the run is
+-- done or ran out of memory; and if it is done, it wrote that all are right
 pub record FindsRight (paths : ℕ) (end : Status) (source source_now : Source) (old new : Sinks) : Type 0 where
   pub done : (Rose source.faults source_now.faults → ⊥) → (Rose old.outs.faults new.outs.faults → ⊥)
       → (end ≡ status.Done) ⊎ (end ≡ status.OutOfMemory)

@@ -5,12 +5,12 @@ use Rattle.outline_check.specs.declared.verdict.Verdict.TheVariants.{Right, Wron
 use Rattle.run_output.specs.declared.status.Status.{Status}
 use Rattle.run_output.specs.declared.status.Status.TheVariants as status
 
--- a line of a word and a number
+-- a line with a word and a number
 abbrev pub verdict_line : List ℕ → ℕ → List ℕ
 verdict_line word n = word ++ (decimal n ++ codes "\n")
 
--- the reply to a text is what the checker says of it: how many paths are right, or the number of the first that
--- isn't; or it is refused
+-- the reply to a text is the checker's verdict: how many paths are right, or the number of the first wrong one, or a
+-- refusal
 abbrev pub IsCheckReply : List ℕ → Status → List ℕ → Type 0
 IsCheckReply text status.Done line = (n : ℕ) × IsVerdict text (Right n) × (line ≡ verdict_line (codes "right ") n)
 IsCheckReply text status.Wrong line = (n : ℕ) × IsVerdict text (Wrong n) × (line ≡ verdict_line (codes "wrong ") n)

@@ -1,7 +1,7 @@
-//! The run of `outline_check`: whether the polygons of a drawing are the best ones.
+//! The run of `outline_check`: it checks whether the polygons of a drawing are the best ones.
 //!
-//! It reads a text of certificates and says whether all are right, or which is the first that isn't. Who
-//! believes it needs to trust neither the program that traced the page nor the machine on which it ran.
+//! It reads a text of certificates and says whether all are right, or which is the first that isn't. If you believe
+//! this check, you needn't trust the program that traced the page, or the machine on which it ran.
 #![tactic(auto)]
 
 pub mod program;

@@ -1,4 +1,4 @@
-//! The top call: all that the program does.
+//! A whole run of the program.
 ghost use Rattle.std.specs.Prelude.{◌≡◌, ℕ, ◌≤◌, ◌^◌, List, All, codes, false, length, true};
 ghost use Rattle.outline_check.specs.ProofsText.{Certified};
 ghost use Rattle.outline_check.specs.Texts.{IsProofs};
@@ -18,8 +18,8 @@ use pt_core::{Inputs, Outputs, Sink};
 use small_program::run;
 use std::alloc::Global;
 
-/// Reads a text of certificates from standard input, writes whether all are right or which is the first that
-/// isn't, and answers the exit status.
+/// Reads a text of certificates from standard input, writes whether all are right or which is the first that isn't, and
+/// returns the exit status.
 pub fn check_run<I: Inputs, O: Outputs, E: Sink>(
     alloc: Global,
     words: &[String],
@@ -34,7 +34,7 @@ pub fn check_run<I: Inputs, O: Outputs, E: Sink>(
         (source_of I.Inputs inputs.old) (source_of I.Inputs inputs.new)
         (sinks_of O.Sink E.Sink outs.old errs.old) (sinks_of O.Sink E.Sink outs.new errs.new) }
 
-    // Where all are right, each polygon of the text is the best one of its path.
+    // If all are right, each polygon of the text is the best one for its path.
     ensures best { result ≡ code_of Done → (text : List ℕ) (width height : ℕ) (paths : List Certified)
         → TellsInput (I.files inputs.old) text → IsProofs text width height paths
         → All (λ c. IsBestPolygon c.points c.at) paths }

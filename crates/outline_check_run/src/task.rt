@@ -7,7 +7,7 @@ use pt_core::{NoMemory, put_number};
 use small_program::{Replies, Reply};
 use std::alloc::Global;
 
-/// Checking a text of certificates.
+/// The task of checking a text of certificates.
 #[derive(Clone, Copy, Debug)]
 pub struct Checking;
 
@@ -30,7 +30,7 @@ impl Replies for Checking {
     ghost one_text = { λ task bytes a b this that. one_line bytes a b this that };
 }
 
-/// A line of a word and a number.
+/// A line with a word and a number.
 fn line(alloc: Global, word: &str, number: u32) -> Result<Vec<u8>, NoMemory>
     ensures { IfOk result (λ line. line.items ≡ verdict_line word.now number) }
 {

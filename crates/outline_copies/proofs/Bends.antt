@@ -1,4 +1,4 @@
--- The bends of a moved outline.
+-- The bends of a moved outline are the moved bends.
 use Rattle.std.proofs.Common.{◌≡◌, ℕ, ◌+◌, ◌-◌, ◌<◌, ℤ, Bool, length, map, ap, ◌∙◌, refl, arith}
 use Rattle.std.proofs.lemmas.List.{length-map}
 use Rattle.std.specs.List.{range_with_len}
@@ -17,11 +17,11 @@ use Rattle.outline_copies.specs.Moved.{moved_by, piece_moved_by}
 use Rattle.outline_copies.proofs.Lists.{mapped_range, moved_at, moved_round}
 use Rattle.outline_copies.proofs.Vertices.{same_way}
 
--- a bend's places are moved, and its ways, areas and squares stay
+-- the bend with its points moved; its ways, areas and squares stay the same
 abbrev pub bend_moved : ℤ → ℤ → Bend → Bend
 bend_moved right up b = record b { at = moved_by right up b.at; start = moved_by right up b.start; end = moved_by right up b.end }
 
--- the outline that is moved
+-- the outline, moved
 abbrev pub outline_moved : ℤ → ℤ → Outline → Outline
 outline_moved right up o = outline (map (moved_by right up) o.vertices) (map (piece_moved_by right up) o.pieces)
 
@@ -31,7 +31,7 @@ way_stays right up p q =
     let y = same_way q.y p.y up in
     λ i. record { x = x i; y = y i }
 
--- ---- one bend, by the ways between its places
+-- ---- one bend, by the ways between its points
 
 abbrev bend_with : Bool → ℕ → Point → Point → Point → Displacement → Displacement → Displacement → Displacement → Displacement → Displacement → Bend
 bend_with curve al at start end arrives leaves first second chord out = record {
@@ -74,7 +74,7 @@ end_moved : (right up : ℤ) (piece : Piece) → end_of (piece_moved_by right up
 end_moved right up (Corner corner end) = refl
 end_moved right up (Curve first second end al) = refl
 
--- ---- all of them
+-- ---- all bends
 
 module _ (right up : ℤ) (o : Outline) (one_each : length o.pieces ≡ length o.vertices) where
   bend_there : (some : 0 < length o.pieces) (k : ℕ) → bend_at (outline_moved right up o) k ≡ bend_moved right up (bend_at o k)

@@ -14,7 +14,7 @@ moved_copy right up points other moved = record {
   above = λ k. sym (same_above right up points other moved 0 k);
 }
 
--- moved by as much as the first point
+-- a point is moved by the same displacement as the first point
 by_the_first : (a b c d : ℤ) → b -ℤ a ≡ d -ℤ c → d ≡ b +ℤ (c -ℤ a)
 by_the_first a b c d same = omega (arith, ints)
 

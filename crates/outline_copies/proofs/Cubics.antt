@@ -1,4 +1,4 @@
--- A joined curve between moved places.
+-- A joined curve between moved points is the moved curve.
 use Rattle.std.proofs.Common.{◌≡◌, ℕ, zero, suc, Bool, true, false, cond, nat_lt, ◌+◌, ◌-◌, ◌*◌, ◌≤◌, ℤ, pos, ◌+ℤ◌, ◌*ℤ◌, ap, ◌∙◌, arith}
 use Rattle.std.proofs.lemmas.Int.{ints}
 use Rattle.std.proofs.Math.Path.{fun_ext}
@@ -41,7 +41,7 @@ cubic_of_moved right up start meeting end alpha =
     let second = ap (λ w. led (moved_by right up end) w (pos alpha) 65536) (way_stays right up end meeting) ∙ led_moved right up end (way_of end meeting) (pos alpha) 65536 in
     λ i. record { start = moved_by right up start; first = first i; second = second i; end = moved_by right up end }
 
--- ---- where it goes along with a way
+-- ---- the point at which the curve is most parallel to a way
 
 same_slant : (right up : ℤ) (c : Cubic) (g : Displacement) (u : ℕ) → slant_at (cubic_moved right up c) g u ≡ slant_at c g u
 same_slant right up c g u =
@@ -54,7 +54,7 @@ same_part : (right up : ℤ) (c : Cubic) (g : Displacement) → touching_part (c
 unfolding touching_part
 same_part right up c g = ap (λ f. least_at f 64) (fun_ext (same_slant right up c g))
 
--- at 64 / 64 at most
+-- the parameter is at most 64
 either_within : (is_less : Bool) (m n most : ℕ) → m ≤ most → n ≤ most → cond is_less m n ≤ most
 either_within true m n most h k = h
 either_within false m n most h k = k
@@ -69,7 +69,7 @@ part_within : (c : Cubic) (g : Displacement) → touching_part c g ≤ 64
 unfolding touching_part
 part_within c g = least_within (slant_at c g) 64
 
--- the weights of a cubic curve's places together are 64 * 64 * 64
+-- the weights of a cubic curve add up to 64 * 64 * 64
 weights : (u v : ℕ) → u + v ≡ 64 → ((v * v * v + 3 * u * v * v) + 3 * u * u * v) + u * u * u ≡ 262144
 weights u v e =
     let cube : (u + v) * (u + v) * (u + v) ≡ 262144 = ap (λ n. n * n * n) e in

@@ -1,4 +1,4 @@
--- A number that is a multiple greater is divided to as much more.
+-- If a number grows by a multiple of the divisor, its quotient grows by that multiple.
 use Rattle.std.proofs.Common.{◌≡◌, ℤ, pos, ◌+ℤ◌, ◌*ℤ◌, arith}
 use Rattle.std.proofs.lemmas.Int.{ints}
 use Rattle.pt_core.specs.Floor.{IsFloor, floor_of}

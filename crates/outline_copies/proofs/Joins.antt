@@ -1,4 +1,4 @@
--- The best join of a moved outline.
+-- The best join of a moved outline is the moved best join.
 use Rattle.std.proofs.Common.{◌≡◌, inl, inr, ℕ, zero, suc, ◌+◌, ◌-◌, ◌<◌, ◌≤◌, ℤ, neg_ℤ, ◌+ℤ◌, Bool, true, false, if◌then◌else◌, nat_eq, List, [], ◌∷◌, length, get_or, map, take, drop, sym, ap, ◌∙◌, subst, refl, arith}
 use Rattle.std.proofs.lemmas.Int.{ints}
 use Rattle.std.proofs.lemmas.List.{drop-map, get_or-map, length-map, take-map}
@@ -17,7 +17,7 @@ use Rattle.curve_join.specs.Choice.{IsBestJoin, MayBeOne, cut_pieces, run_penalt
 use Rattle.curve_join.specs.Join.{MayJoin, joined_piece, penalty_at}
 use Rattle.curve_join.specs.Outline.{outline}
 use Rattle.curve_join.specs.declared.bend.Bend.{Bend}
-use Rattle.curve_join.proofs.Cutting.{length-bends_of, slice_length, step_there}
+use Rattle.curve_join.proofs.Cuts.{length-bends_of, slice_length, step_there}
 use Rattle.outline_copies.specs.Moved.{moved_by, piece_moved_by}
 use Rattle.outline_copies.proofs.Bends.{bend_moved, bends_moved}
 use Rattle.outline_copies.proofs.Lists.{mapped_range}
@@ -97,7 +97,7 @@ cut_too right up tol size bends cut best =
 
 -- ---- the pieces that a cut leaves
 
--- no number of a walk is above its last one
+-- no index of a walk is above its last one
 abbrev Rises : Step → Type 0
 Rises s = s.from < s.to
 

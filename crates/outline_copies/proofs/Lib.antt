@@ -1,3 +1,4 @@
+-- What moves with a path, step by step from its vertices to its joined outline.
 pub mod Floors
 pub mod Lists
 pub mod Vertices

@@ -1,4 +1,4 @@
--- The smooth outline of moved vertices.
+-- The smooth outline of moved vertices is the moved smooth outline.
 use Rattle.std.proofs.Common.{◌≡◌, ℕ, ◌+◌, ◌-◌, ◌<◌, ℤ, pos, ◌+ℤ◌, ◌-ℤ◌, ◌*ℤ◌, Bool, true, false, if◌then◌else◌, List, length, map, ap, ◌∙◌, arith}
 use Rattle.std.proofs.lemmas.Int.{ints}
 use Rattle.std.proofs.lemmas.List.{length-map}
@@ -70,7 +70,7 @@ piece_moved right up alphamax before at after =
     else curve_of (al_of s) (moved_by right up before) (moved_by right up at) (moved_by right up after)) (same_sharpness right up before at after)
     ∙ choice_moved right up before at after (al_of (sharpness_of before at after)) (is_corner alphamax (sharpness_of before at after))
 
--- ---- all of them
+-- ---- all pieces
 
 module _ (right up : ℤ) (alphamax : ℕ) (vertices : List Point) where
   one_moved : (some : 0 < length vertices) (j : ℕ)

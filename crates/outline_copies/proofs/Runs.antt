@@ -1,4 +1,4 @@
--- Runs of moved bends.
+-- A run of moved bends may be joined exactly if the run may, and has the same penalty.
 use Rattle.std.proofs.Common.{◌≡◌, ℕ, ◌+◌, ◌-◌, ◌^◌, ◌<◌, ℤ, pos, ◌+ℤ◌, ◌*ℤ◌, ◌<ℤ◌, ◌≤ℤ◌, List, [], ◌∷◌, length, get_or, map, take, sym, ap, ◌∙◌, subst, refl, arith}
 use Rattle.std.proofs.lemmas.List.{get_or-map, length-map, take-map}
 use Rattle.std.proofs.lemmas.List.Elements.{All-map}
@@ -219,7 +219,7 @@ module _ (right up : ℤ) where
           pieces = pieces_there;
         }
 
-  -- ---- and at which penalty
+  -- ---- the penalty of a run
 
   penalty_of_some : (run : List Bend) → 0 < length run → penalty_at (map (bend_moved right up) run) ≡ penalty_at run
   unfolding penalty_at

@@ -1,4 +1,4 @@
--- The vertices of a moved path.
+-- The vertices of a moved path are the moved vertices.
 use Rattle.std.proofs.Common.{◌≡◌, ℕ, ◌+◌, ◌<◌, ℤ, pos, ◌+ℤ◌, ◌-ℤ◌, ◌*ℤ◌, List, length, if◌then◌else◌, nat_lt, map, sym, ap, ◌∙◌, subst, arith}
 use Rattle.std.proofs.lemmas.Int.{ints}
 use Rattle.std.proofs.lemmas.List.{get_or-map, length-map}
@@ -17,7 +17,7 @@ use Rattle.outline_copies.specs.Moved.{AreMoved, in_units, moved_by}
 
 -- ---- offsets between points of a path
 
--- a difference stays
+-- a difference stays the same
 pub same_way : (a b move : ℤ) → (a +ℤ move) -ℤ (b +ℤ move) ≡ a -ℤ b
 same_way a b move = omega (arith, ints)
 
@@ -32,7 +32,7 @@ module _ (right up : ℤ) (points other : List Point) (copy : AreMoved right up 
       ap (λ (p : Point). p.y -ℤ (point_at other i).y) there ∙ ap (λ (p : Point). ((point_at points k).y +ℤ up) -ℤ p.y) here
       ∙ same_way (point_at points k).y (point_at points i).y up)
 
-  -- so sums of offsets are the same
+  -- sums of offsets stay the same
   same_sums : (i j : ℕ) → sums_of other i j ≡ sums_of points i j
   same_sums i j =
       let e : rightward_of other i ≡ rightward_of points i = fun_ext (same_rightward i) in
@@ -52,11 +52,11 @@ module _ (right up : ℤ) (points other : List Point) (copy : AreMoved right up 
 
 -- ---- lines and vertices
 
--- a line is moved by its centre
+-- the line with its centre moved
 abbrev pub line_moved : ℤ → ℤ → Line → Line
 line_moved right up line = record line { cx = line.cx +ℤ in_units right; cy = line.cy +ℤ in_units up }
 
--- a centre is moved by as much as the points
+-- a centre moves with the points
 centre_moved : (c move part : ℤ) → pos 1024 *ℤ (c +ℤ move) +ℤ part ≡ (pos 1024 *ℤ c +ℤ part) +ℤ pos 1024 *ℤ move
 centre_moved c move part = omega (arith, ints)
 
@@ -72,7 +72,7 @@ moved_line right up s p line is =
       along = λ i. record { nx = (is.along i).nx; ny = (is.along i).ny; cx = x i; cy = y i };
     }
 
--- so a place that is moved too is as far from it
+-- a moved point has the same distance from a moved line as before
 from_centre : (v move c shift : ℤ) → (pos 1024 *ℤ (v +ℤ move) +ℤ shift) -ℤ (c +ℤ pos 1024 *ℤ move) ≡ (pos 1024 *ℤ v +ℤ shift) -ℤ c
 from_centre v move c shift = omega (arith, ints)
 

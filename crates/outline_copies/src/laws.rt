@@ -9,26 +9,26 @@ ghost use Rattle.vertex_adjust.specs.Vertex.{AreVertices};
 ghost use Rattle.path_copies.specs.Copy.{IsCopy};
 ghost use Rattle.outline_copies.specs.Moved.{AreMoved, in_units, moved_by, piece_moved_by};
 
-/// Two paths are copies of each other exactly where the one is the other, moved by whole pixels.
+/// Two paths are copies of each other exactly if one of them is the other, moved by whole pixels.
 pub fn copies_are_moved()
     ensures moved { (points other : List Point) → IsCopy points other → (right : ℤ) × (up : ℤ) × AreMoved right up points other }
     ensures copies { (right up : ℤ) (points other : List Point) → AreMoved right up points other → IsCopy points other }
 {}
 
-/// The vertices of a copy's polygon are those of the path's, moved by as much.
+/// If a path is moved by whole pixels, the vertices of its polygon are moved by the same displacement.
 pub fn copies_have_moved_vertices()
     ensures { (right up : ℤ) (points other : List Point) (at : List ℕ) (vertices : List Point)
         → AreMoved right up points other → AreVertices points at vertices
         → AreVertices other at (map (moved_by (in_units right) (in_units up)) vertices) }
 {}
 
-/// The smooth outline of vertices that are moved is the vertices' own, moved by as much.
+/// If vertices are moved by whole pixels, their smooth outline is moved by the same displacement.
 pub fn moved_vertices_have_moved_pieces()
     ensures { (right up : ℤ) (alphamax : ℕ) (vertices : List Point)
         → pieces_of alphamax (map (moved_by right up) vertices) ≡ map (piece_moved_by right up) (pieces_of alphamax vertices) }
 {}
 
-/// The best join of an outline that is moved is the outline's own, moved by as much.
+/// If an outline is moved by whole pixels, its best join is moved by the same displacement.
 pub fn moved_outlines_have_moved_joins()
     ensures { (right up : ℤ) (tol : ℕ) (vertices : List Point) (pieces joined : List Piece)
         → length pieces ≡ length vertices → IsBestJoin tol (outline vertices pieces) joined

@@ -1,7 +1,8 @@
-//! A path that is a copy of another gets the same outline, moved by as much.
+//! Proves that a copy of a path has the same outline, moved by the same displacement.
 //!
-//! A letter that stands on a page twice is such a pair: each point of the one path is the point of the same number of the
-//! other, so many whole pixels farther to the right and up. Then so is each place of its outline.
+//! A letter that occurs twice on a page is such a pair. Each point of one path is the corresponding point of the other
+//! one, moved by the same number of whole pixels to the right and up. Then the same holds for each point of its
+//! outline.
 #![tactic(auto)]
 
 pub mod laws;

@@ -15,7 +15,7 @@ use Rattle.curve_join.specs.Join.{FollowsSide, MayJoin, cubic_at, inner_bends, n
 use Rattle.curve_join.specs.Outline.{Outline, vertex}
 use Rattle.curve_join.specs.Vector.{dot_of, square_of, vector_cross, way_of}
 use Rattle.curve_join.specs.declared.bend.Bend.{Bend}
-use Rattle.curve_join.proofs.Cutting.{bends_at, length-bends_of, slice_at, slice_length}
+use Rattle.curve_join.proofs.Cuts.{bends_at, length-bends_of, slice_at, slice_length}
 use Rattle.outline_distance.specs.Distance.{PassesBy}
 use Rattle.outline_distance.proofs.Ways.{weighed}
 

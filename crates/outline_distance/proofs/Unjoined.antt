@@ -21,7 +21,7 @@ use Rattle.curve_join.specs.Outline.{Outline, is_curve, outline, piece_at}
 use Rattle.curve_join.specs.declared.bend.Bend.{Bend}
 use Rattle.page_trace.specs.Trace.{IsOutlineOf, IsOutlineWith, tolerance_of}
 use Rattle.outline_distance.proofs.Curves.{always_corner}
-use Rattle.curve_join.proofs.Cutting.{bends_at, length-bends_of, slice_at, slice_length}
+use Rattle.curve_join.proofs.Cuts.{bends_at, length-bends_of, slice_at, slice_length}
 
 -- ---- a walk by single steps
 

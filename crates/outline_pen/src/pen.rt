@@ -3,28 +3,28 @@ ghost use Rattle.std.specs.Prelude.{◌≡◌, ◌+◌, ◌≤◌, ◌++◌, ℕ
 
 use pt_core::{NoMemory, write_text};
 
-/// Where a format writes something that is no number.
+/// A position in a drawing at which a format writes text that isn't a number.
 #[derive(Clone, Copy, Debug)]
 pub enum Mark {
     /// Before a shape.
     Shape,
-    /// Before each outline of a shape but its first.
+    /// Before each outline of a shape except the first one.
     Next,
-    /// Before the place where an outline begins.
+    /// Before the point at which an outline begins.
     Start,
-    /// Behind it.
+    /// After the point at which an outline begins.
     Started,
     /// Before the step of a line.
     Line,
-    /// Behind it.
+    /// After the step of a line.
     Lined,
     /// Before the steps of a curve.
     Curve,
-    /// Behind them.
+    /// After the steps of a curve.
     Curved,
-    /// Behind an outline's last piece.
+    /// After the last piece of an outline.
     Closed,
-    /// Behind a shape.
+    /// After a shape.
     Shaped,
 }
 
@@ -32,16 +32,16 @@ pub enum Mark {
 pub trait Pen {
     ghost use Rattle.outline_pen.specs.declared.pen.Mark.{Mark};
 
-    /// What stands at each mark.
+    /// The text at each mark.
     ghost mark_text: { Mark → List ℕ };
 
-    /// What the format writes at a mark, 32 bytes at most.
+    /// The text that the format writes at a mark, at most 32 bytes.
     fn text_at(mark: Mark) -> &'static [u8]
         ensures value { result.now ≡ mark_text mark }
         ensures short { length (mark_text mark) ≤ 32 };
 }
 
-/// Appends what the format writes at a mark.
+/// Appends the text of a mark.
 #[inline(always)]
 pub(crate) fn put_mark<P: Pen>(out: &mut Vec<u8>, mark: Mark) -> Result<(), NoMemory>
     ensures { OnOk result (out.new.items ≡ out.old.items ++ P.mark_text mark) }
@@ -50,7 +50,7 @@ pub(crate) fn put_mark<P: Pen>(out: &mut Vec<u8>, mark: Mark) -> Result<(), NoMe
     Ok(())
 }
 
-/// Writes what the format writes at a mark, so that it ends at `end` of the buffer.
+/// Writes the text of a mark into the buffer, so that it ends at index `end`. Returns the index at which it starts.
 #[inline(always)]
 pub(crate) fn write_mark<P: Pen>(mark: Mark, text: &mut [u8], end: usize) -> usize
     requires room { 32 ≤ end }

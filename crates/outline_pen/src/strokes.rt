@@ -5,7 +5,7 @@ ghost use Rattle.outline_pen.specs.Shapes.{curve_text, line_text, outline_text, 
 use crate::pen::{Mark, Pen, put_mark, write_mark};
 use pt_core::{NoMemory, Piece, Point, end_of, put_place, start_of, write_step, write_text};
 
-/// Appends a closed subpath.
+/// Appends an outline as a closed subpath.
 pub(crate) fn put_outline<P: Pen>(
     out: &mut Vec<u8>,
     unit: u32,
@@ -35,7 +35,7 @@ fn put_start<P: Pen>(out: &mut Vec<u8>, unit: u32, at: Point) -> Result<(), NoMe
     Ok(())
 }
 
-/// Appends the pieces, the first of which begins at `start`.
+/// Appends the pieces. The first one begins at `start`.
 fn put_pieces<P: Pen>(
     out: &mut Vec<u8>,
     unit: u32,
@@ -56,7 +56,7 @@ fn put_pieces<P: Pen>(
     Ok(())
 }
 
-/// Appends a piece that begins at `from`; `text` is room for the text of one.
+/// Appends a piece that begins at `from`. `text` is a buffer for the text of one piece.
 fn put_piece<P: Pen>(
     out: &mut Vec<u8>,
     text: &mut [u8; 256],
@@ -73,7 +73,7 @@ fn put_piece<P: Pen>(
     Ok(())
 }
 
-/// Writes a piece that begins at `from`, at the end of the buffer.
+/// Writes a piece that begins at `from` to the end of the buffer. Returns the index at which its text starts.
 #[inline(always)]
 fn write_piece<P: Pen>(unit: u32, from: Point, piece: Piece, text: &mut [u8; 256]) -> usize
     requires some { 1 ≤ unit }
@@ -95,7 +95,8 @@ fn write_piece<P: Pen>(unit: u32, from: Point, piece: Piece, text: &mut [u8; 256
     }
 }
 
-/// Writes a line from one point to another so that it ends at `end` of the buffer.
+/// Writes a line from one point to another into the buffer, so that it ends at index `end`. Returns the index at which
+/// its text starts.
 #[inline(always)]
 fn write_line<P: Pen>(unit: u32, from: Point, to: Point, text: &mut [u8], end: usize) -> usize
     requires some { 1 ≤ unit }
@@ -111,7 +112,7 @@ fn write_line<P: Pen>(unit: u32, from: Point, to: Point, text: &mut [u8], end: u
     write_mark::<P>(Mark::Line, text, start)
 }
 
-/// Writes a curve that begins at `from`, at the end of the buffer.
+/// Writes a curve that begins at `from` to the end of the buffer. Returns the index at which its text starts.
 #[inline(always)]
 fn write_curve<P: Pen>(
     unit: u32,

@@ -34,7 +34,7 @@ use Rattle.curve_join.specs.Join.{MayJoin, alpha_at, cubic_at, first_bend, joine
 use Rattle.curve_join.specs.Outline.{Outline, outline}
 use Rattle.curve_join.specs.Vector.{GoesNoFarther, IsPlaced, way_of}
 use Rattle.curve_join.specs.declared.bend.Bend.{Bend}
-use Rattle.curve_join.proofs.Cutting.{step_there}
+use Rattle.curve_join.proofs.Cuts.{step_there}
 use Rattle.page_trace.specs.Trace.{AreVerticesOf, IsOutlineOf, IsOutlineWith, IsTrace, tolerance_of}
 use Rattle.page_trace.proofs.Exists.{paths_found}
 use Rattle.page_trace.proofs.OneTrace.{one_list_of_paths}

@@ -28,7 +28,7 @@ use Rattle.curve_join.specs.Vector.{towards, vector_cross, way_of}
 use Rattle.curve_join.specs.declared.bend.Bend.{Bend}
 use Rattle.curve_join.specs.declared.sense.Sense.{Sense}
 use Rattle.curve_join.specs.declared.sense.Sense.TheVariants.{Left, Right}
-use Rattle.curve_join.proofs.Cutting.{bends_at, length-bends_of}
+use Rattle.curve_join.proofs.Cuts.{bends_at, length-bends_of}
 use Rattle.page_trace.specs.Trace.{AreVerticesOf, IsOutlineOf, IsOutlineWith, IsPolygonOf, IsTrace, tolerance_of}
 use Rattle.page_trace.proofs.Exists.{paths_found}
 use Rattle.page_trace.proofs.OneTrace.{one_list_of_paths}

@@ -1,8 +1,9 @@
-pub mod Spelling
+-- Lemmas about points texts, marks and sweeps.
+pub mod UniqueReading
 pub mod Traced
-pub mod Looping
-pub mod Marking
-pub mod Sweeping
-pub mod Pathing
+pub mod LoopPoints
+pub mod Marks
+pub mod RowSweeps
+pub mod PathLists
 pub mod Whole
 mod Examples

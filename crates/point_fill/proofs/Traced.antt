@@ -1,4 +1,4 @@
--- The points text of a page's paths fills the page.
+-- The points text of a page's paths fills the same page.
 use Rattle.std.proofs.Common.{◌≡◌, ℕ, zero, suc, ◌+◌, ◌-◌, ◌*◌, ◌<◌, ◌≤◌, ◌^◌, Bool, true, false, cond, List, [], ◌∷◌, All, length, get_or, Some, refl, ap, sym, ◌∙◌, inl, inr, arith}
 use Rattle.std.specs.Prelude.{nat_lt}
 use Rattle.std.proofs.lemmas.Bool.{cases_lt, lt-ltb, false≢true}
@@ -26,9 +26,9 @@ use Rattle.path_decompose.proofs.Walked.{white_through}
 use Rattle.point_fill.specs.PointsFile.{IsToldPath}
 use Rattle.point_fill.specs.Filled as filled
 use Rattle.point_fill.specs.Filled.{IsFilled}
-use Rattle.point_fill.proofs.Spelling.{one_reading}
+use Rattle.point_fill.proofs.UniqueReading.{one_reading}
 
--- a text fills one page
+-- a text fills at most one page
 pub one_filled : (text : List ℕ) (page other : Page) → IsFilled text page → IsFilled text other → other ≡ page
 one_filled text page other a b =
     let same = one_reading text a.width a.height b.width b.height a.paths b.paths a.told b.told in
@@ -44,7 +44,7 @@ rows_le : (n m : ℕ) (f : ℕ → ℕ) → ((k : ℕ) → f k ≤ m) → sum_be
 rows_le zero m f h = omega arith
 rows_le (suc n) m f h = omega (arith, rows_le n m f h, h n)
 
--- no more than all pass
+-- a count is at most the number of candidates
 count_below-le : (n : ℕ) (f : ℕ → Bool) → count_below n f ≤ n
 count_below-le zero f = omega arith
 count_below-le (suc n) f = more (f n) (count_below-le n f)
@@ -75,7 +75,7 @@ none_inside : (b : Image) (width height x y : ℕ) → black_count b width heigh
 none_inside b width height x y none hx hy =
     none_in_row width (λ u. b u y) x (none_in_rows height (λ v. count_below width (λ u. b u v)) y none hy) hx
 
--- the area of each path is the number of pixels inside
+-- the area of each path is the number of pixels inside it
 areas : (page : Page) (policy : Policy) (b : Image) (paths : List Path) → IsDecomposed page policy b paths → All (λ path. path.area ≡ black_count (inside path.points) page.width page.height) paths
 areas page policy b [] d = All-nil (λ (path : Path). path.area ≡ black_count (inside path.points) page.width page.height)
 areas page policy b (path ∷ paths) d =
@@ -104,7 +104,7 @@ odd_kept width height x y (path ∷ paths) hx hy all =
         let outside : inside path.points x y ≡ false = none_inside (inside path.points) width height x y (sym area ∙ nothing) hx hy in
         rest ∙ sym (ap (λ t. differ t (odd_by (λ p. inside p.points x y) paths)) outside)
 
--- ---- there are at most as many paths as places
+-- ---- a page has at most as many paths as pixels
 
 few_from : (page : Page) (policy : Policy) (b : Image) (paths : List Path) (width height most : ℕ) → Fits b width height → IsDecomposed page policy b paths
     → ((x y : ℕ) → IsFirstBlack b x y → y * width + (width - x) ≤ most) → length paths ≤ most

@@ -16,7 +16,7 @@ use bit_image::Bitmap;
 use list_reader::{Entries, PointsOf, has_byte, read_signed_area};
 use pt_core::Point;
 
-/// Marks the loop whose points stand at a place, and gives the place behind its line.
+/// Marks the loop that begins at an index of the text, and returns the index after its line.
 fn mark_loop(text: &[u8], at: usize, page: &mut Bitmap) -> Option<usize>
     requires at { at ≤ length text.now }
     ensures sides { SameSides page.old page.new }
@@ -53,14 +53,14 @@ fn mark_loop(text: &[u8], at: usize, page: &mut Bitmap) -> Option<usize>
     Some(end + 1)
 }
 
-/// Whether so many points may make a loop.
+/// Whether this number of points can make a loop.
 fn makes_loop(count: u64) -> bool
     ensures { MatchBool result (4 ≤ count) (count < 4) }
 {
     4 <= count
 }
 
-/// Marks the path that stands at a place, and gives the place behind its line.
+/// Marks the path that begins at an index of the text, and returns the index after its line.
 fn mark_path(text: &[u8], at: usize, page: &mut Bitmap) -> Option<usize>
     requires at { at ≤ length text.now }
     ensures sides { SameSides page.old page.new }
@@ -75,7 +75,8 @@ fn mark_path(text: &[u8], at: usize, page: &mut Bitmap) -> Option<usize>
     mark_loop(text, points, page)
 }
 
-/// Marks so many paths that stand at a place, if they are all that is left.
+/// Marks the `count` paths that begin at an index of the text. Returns whether these paths are there and are all that
+/// is left of the text.
 pub(crate) fn mark_paths(text: &[u8], at: usize, count: u32, page: &mut Bitmap) -> bool
     requires at { at ≤ length text.now }
     requires wide { page.old.width ≤ LONGEST_SIDE }

@@ -22,7 +22,7 @@ fn is_step(from: Point, to: Point) -> bool
     across + along == 1
 }
 
-/// Marks the step between two corners of the page, if it is one.
+/// Marks the step between two corners of the page, if they are one unit step apart. Returns whether they are.
 pub(crate) fn mark_step(page: &mut Bitmap, from: Point, to: Point) -> bool
     requires from { IsCornerOf page.old.width page.old.height from }
     requires to { IsCornerOf page.old.width page.old.height to }

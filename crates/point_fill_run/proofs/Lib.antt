@@ -1,1 +1,2 @@
-pub mod Rounding
+-- Why the program makes the same page again.
+pub mod RoundTrip

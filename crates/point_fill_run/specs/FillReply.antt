@@ -9,7 +9,7 @@ use Rattle.point_fill.specs.FillText.{fill_text}
 use Rattle.point_fill.specs.PointsFile.{IsSomePointsFile}
 use Rattle.point_fill.specs.declared.fault.FillFault.TheVariants as fault
 
--- the reply to a text: the page that it fills, as raw PBM; or, where it tells no paths on a page, that it is refused
+-- the reply to a text: the page that it fills, as raw PBM; or a refusal, if it describes no paths on a page
 abbrev pub IsFillReply : List ℕ → Status → List ℕ → Type 0
 IsFillReply text end reply =
     ((end ≡ status.Done) × ((page : Page) × IsFilled text page × (reply ≡ pbm_text page)))

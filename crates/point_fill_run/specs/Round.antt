@@ -8,8 +8,8 @@ use Rattle.small_program.specs.ProgramRun.{Writes}
 use Rattle.run_output.specs.declared.status.Status.{Status}
 use Rattle.run_output.specs.declared.status.Status.TheVariants as status
 
--- a run ended so whose input is the text of this page: where no device failed, it is done, or memory ran out; and where
--- it is done, the page came back as the document
+-- what holds after a run with the points text of this page as its input: if no device failed, the run is done or ran
+-- out of memory; and if it is done, it wrote the same page
 pub record GivesBack (page : Page) (end : Status) (source source_now : Source) (old new : Sinks) : Type 0 where
   pub done : (Rose source.faults source_now.faults → ⊥) → (Rose old.outs.faults new.outs.faults → ⊥)
       → (end ≡ status.Done) ⊎ (end ≡ status.OutOfMemory)

@@ -1,4 +1,4 @@
-//! The run of `point_fill`: standard input is a points text, standard output its page.
+//! The run of `point_fill`: it reads a points text from standard input and writes its page to standard output.
 #![tactic(auto)]
 
 pub mod program;

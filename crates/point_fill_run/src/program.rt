@@ -1,4 +1,4 @@
-//! All that the program does.
+//! A whole run of the program.
 ghost use Rattle.std.specs.Prelude.{◌≡◌, ◌^◌, ◌≤◌, List, false, length, true};
 ghost use Rattle.pt_base.specs.PointsText.{points_text};
 ghost use Rattle.pt_core.specs.declared.path.Path.{Path};
@@ -19,7 +19,7 @@ use pt_core::{Inputs, NoMemory, Outputs, Sink};
 use small_program::{Replies, Reply, run};
 use std::alloc::Global;
 
-/// Fills points texts.
+/// The task of filling points texts.
 #[derive(Clone, Copy, Debug)]
 struct FillTask;
 
@@ -32,8 +32,9 @@ impl Replies for FillTask {
     fn reply(&self, alloc: Global, text: Vec<u8>) -> Result<Reply, NoMemory> {
         match fill(alloc, &text) {
             Ok(page) => {
-                // The text makes room for its page's, which is as large as the page, and the points may be far larger
-                // than both. So there is at most the text and the page at any time, or the page and its own text.
+                // The text is freed before the page's own text is made, which is as large as the page. The points may
+                // be far larger than both. So at any time there is at most the text and the page, or the page and its
+                // own text.
                 drop(text);
                 let reply = pbm(alloc, &page)?;
                 Ok(Reply::Right(reply))
@@ -48,10 +49,9 @@ impl Replies for FillTask {
     ghost one_text = { λ _ text a b this that. one_fill_text text a b this that };
 }
 
-/// Fills the page that the points text on standard input tells, writes it to standard output as raw PBM, and answers the
-/// exit status.
+/// Reads a points text from standard input, writes its page to standard output as raw PBM, and returns the exit status.
 ///
-/// It takes no words. After a fault of the outputs nothing more is written to them.
+/// The program takes no command-line arguments. After a fault of the outputs nothing more is written to them.
 pub fn fill_run<I: Inputs, O: Outputs, E: Sink>(
     alloc: Global,
     words: &[String],
@@ -66,7 +66,8 @@ pub fn fill_run<I: Inputs, O: Outputs, E: Sink>(
         (source_of I.Inputs inputs.old) (source_of I.Inputs inputs.new)
         (sinks_of O.Sink E.Sink outs.old errs.old) (sinks_of O.Sink E.Sink outs.new errs.new) }
 
-    // The points text of a page's paths, under any policy and with no speckle left out, gives the page back.
+    // The points text of a page's paths, under any turn policy and without leaving out speckles, makes the same page
+    // again.
     ensures gives_back { (page : Page) (policy : Policy) (all : List Path) → IsPage page
         → IsDecomposition page policy all → length words.now ≡ 0
         → TellsInput (I.files inputs.old) (points_text page.width page.height (kept 0 all))

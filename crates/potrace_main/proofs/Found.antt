@@ -9,7 +9,7 @@ use Rattle.demo_pages.specs.declared.page.TheConstants.{BARS, RECTANGLES}
 use Rattle.demo_pages.specs.Generator.{state_after}
 use Rattle.potrace_main.specs.Demo.{IsDemoLine, IsDemoText, demo_line}
 use Rattle.demo_pages.specs.Picture.{pages_from, picture_page}
-use Rattle.demo_pages.proofs.Drawing.{is_page}
+use Rattle.demo_pages.proofs.Draws.{is_page}
 
 line_found : (settings : Settings) (page : Page) → IsPage page → CanWrite settings → (line : List ℕ) × IsDemoLine settings page line
 line_found settings page is can =

@@ -1,6 +1,6 @@
--- `clap` finds at most one kind of fault in the words of a command without subcommands.
+-- `clap` finds at most one kind of error in the arguments of a command without subcommands.
 --
--- A lemma follows each part of the definition of faults, from single values up to all of the words.
+-- Each part of the definition of errors has a lemma, from single values up to all arguments.
 use Rattle.std.proofs.Common.{◌≡◌, ◌==◌, ◌&&◌, nat_lt, ◌≤◌, ◌∷◌, ◌+◌, ℕ, zero, suc, Bool, true, false, not, cond, List, [], length, drop, min, Option, Some, None, is_some, inl, inr, sym, ap, subst, refl, arith, slice_get, encode_utf8}
 use Rattle.std.specs.Option.{option_map_or}
 use Rattle.std.specs.Str.{chars}
@@ -42,7 +42,7 @@ few_map : {A : Type 0} (f : A → Kinds) (o : Option A) → ((x : A) → IsFew (
 few_map f None g = none
 few_map f (Some x) g = g x
 
--- Faults of values.
+-- Errors of values.
 
 few_value : (i : Bool) (p : ValueParser) (t : Text) → IsFew (value_kinds i p t)
 few_value i p t = few_if _ _ _ none (one _)
@@ -67,7 +67,7 @@ few_count : (rule : Rule) (values : List Text) (rows : List Row) → IsFew (coun
 few_count rule [] rows = few_value rule.ignore_case (parser_of_value rule.parser) (count_text (min (count_of rule.id rows + 1) 255))
 few_count rule (v ∷ vs) rows = few_values rule.ignore_case (parser_of_value rule.parser) (v ∷ vs)
 
--- Faults of one use of an option.
+-- Errors of one use of an option.
 
 few_set : (again : Bool) (rule : Rule) (values : List Text) (rows : List Row) → IsFew (set_fault again rule values rows)
 few_set again rule values rows = few_or (repeat_fault again rule.id rows) (values_fault rule values) (few_if _ _ _ (one _) none) (few_values rule.ignore_case (parser_of_value rule.parser) values)
@@ -93,7 +93,7 @@ few_settle rules again held = few_map (λ (p : Text × List Text). option_map_or
 few_react : (rules : List Rule) (again : Bool) (rule : Rule) (values : List Text) (held : Held) → IsFew (react_fault rules again rule values held)
 few_react rules again rule values held = few_or (settle_fault rules again held) (use_fault again rule values (settled rules held).rows) (few_settle rules again held) (few_use again rule values (settled rules held).rows)
 
--- Faults of one word.
+-- Errors of one argument.
 
 few_option : (rules : List Rule) (again : Bool) (rule : Rule) (v : Option Text) (held : Held) → IsFew (option_fault rules again rule v held)
 few_option rules again rule (Some v) held = few_react rules again rule (v ∷ []) held
@@ -158,7 +158,7 @@ few_turn shape leaf w word =
     few_if (is_some w.stopped) _ _ none (few_or (word_fault shape [] w.is_trailing w.waiting word w.held) (step_fault shape w.position met.0 met.1)
     (few_word shape w.is_trailing w.waiting word w.held) (few_after shape leaf w.position met.0 met.1))
 
--- Faults of all words, of defaults, and of what is missing.
+-- Errors of all arguments, of defaults, and of missing arguments.
 
 few_walk : (shape : Shape) → shape.is_leaf ≡ true → (w : Walk) (words : List Text) → IsFew (walk_fault shape [] w words)
 unfolding walk_fault
@@ -220,7 +220,7 @@ few_built b words leaf empty =
     (entered_fault b (walk b.top.rules ns nothing_held words).stopped)))
     (sym none_named) (few_level b.top leaf nothing_held words (is_some (entered b stop)) (entered_fault b stop) (few_entered b empty stop))
 
--- the words of a command that has no subcommand
+-- the arguments of a command without subcommands have at most one kind of error
 pub few_faults : (a : App) (words : List Text) → (built a).top.is_leaf ≡ true → (built a).subs ≡ [] → IsFew (fault_of a words)
 few_faults a words leaf empty = few_built (built a) (argument_words a words) leaf empty
 

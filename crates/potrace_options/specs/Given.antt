@@ -1,10 +1,10 @@
--- What the words give, option by option.
+-- What the command line gives, option by option.
 use Rattle.std.specs.Prelude.{ℕ, Bool, false, List, [], Option, codes, unwrap_or}
 use Rattle.std.specs.Option.{option_map_or}
 use Rattle.std.specs.Str.{bytes_eq}
 use Rattle.clap.specs.Walk.{Row, first_of, all_of}
 
--- the value of each option that stands in the words, whether a flag does, and the file names in order
+-- the value of each option that is present, whether each flag is present, and the file names in order
 pub record Given : Type 0 where
   pub backend : Option (List ℕ)
   pub svg : Bool
@@ -25,7 +25,7 @@ pub record Given : Type 0 where
   pub version : Bool
   pub files : List (List ℕ)
 
--- the flag of this name stands in the words
+-- the flag of this name is present
 abbrev pub is_set : List ℕ → List Row → Bool
 is_set name rows = option_map_or (λ value. bytes_eq value (codes "true")) (first_of name rows) false
 

@@ -1,4 +1,4 @@
-//! The command that `clap` is given.
+//! The command that describes the options to `clap`.
 ghost use Rattle.std.specs.Prelude.{◌≡◌, IfOk, codes, false, map};
 ghost use Rattle.clap.specs.Simple.{app_of};
 ghost use Rattle.clap.specs.Walk.{rule_of};
@@ -13,12 +13,12 @@ struct OptionRow<'a>(Option<char>, &'a str, ArgAction);
 
 /// The program's options.
 const OPTIONS: &[OptionRow<'static>] = &[
-    // What is written, and to where.
+    // What is written, and to which file.
     OptionRow(Some('b'), "backend", ArgAction::Set),
     OptionRow(Some('s'), "svg", ArgAction::SetTrue),
     OptionRow(Some('e'), "eps", ArgAction::SetTrue),
     OptionRow(Some('o'), "output", ArgAction::Set),
-    // How outlines run.
+    // How outlines are made.
     OptionRow(Some('z'), "turnpolicy", ArgAction::Set),
     OptionRow(Some('t'), "turdsize", ArgAction::Set),
     OptionRow(Some('a'), "alphamax", ArgAction::Set),
@@ -31,13 +31,13 @@ const OPTIONS: &[OptionRow<'static>] = &[
     OptionRow(Some('i'), "invert", ArgAction::SetTrue),
     OptionRow(Some('c'), "cleartext", ArgAction::SetTrue),
     OptionRow(None, "flat", ArgAction::SetTrue),
-    // What the program is to do, and by how many workers.
+    // What the program does, and with how many workers.
     OptionRow(None, "workers", ArgAction::Set),
     OptionRow(None, "demo", ArgAction::Set),
     OptionRow(Some('v'), "version", ArgAction::SetTrue),
 ];
 
-/// The program's command. Its words come without the program's name.
+/// The program's command. Its arguments don't include the program's name.
 pub(crate) fn program<'a>(alloc: Global) -> Result<Command<'a>, AllocError>
     ensures { IfOk result (λ c. app_of c ≡ command) }
 {
@@ -46,7 +46,7 @@ pub(crate) fn program<'a>(alloc: Global) -> Result<Command<'a>, AllocError>
     command.arg(files(alloc))
 }
 
-/// A command with these options more.
+/// Adds these options to a command.
 fn with_options<'a>(
     alloc: Global,
     command: Command<'a>,
@@ -74,7 +74,7 @@ fn option<'a>(alloc: Global, row: &OptionRow<'a>) -> Arg<'a>
     }
 }
 
-/// Any number of words that are neither an option nor an option's value.
+/// Any number of arguments that are neither an option nor an option's value.
 fn files<'a>(alloc: Global) -> Arg<'a>
     ensures rule { rule_of result ≡ operands (codes "file") }
     ensures local { result.global ≡ false }

@@ -1,4 +1,4 @@
-//! What the words give, option by option.
+//! What the command line gives, option by option.
 ghost use Rattle.std.specs.Prelude.{◌≡◌, [], IfOk, codes, map, option_map, unwrap_or};
 ghost use Rattle.clap.specs.Matches.{found_of};
 ghost use Rattle.clap.specs.Walk.{all_of, first_of, rows_of};
@@ -9,7 +9,7 @@ use run_output::{Name, Names};
 use std::alloc::{AllocError, Global};
 use std::marker::Model;
 
-/// What the words give: the value of each option that stands there, whether a flag does, and the file
+/// What the command line gives: the value of each option that is present, whether each flag is present, and the file
 /// names in order. Values are texts as they were typed.
 #[derive(Debug, Drop)]
 pub struct Given<'w> {
@@ -61,7 +61,7 @@ impl<'w> Model for Given<'w> {
     } };
 }
 
-/// Reads what `clap` found. `--cleartext` has no effect, and isn't looked at.
+/// Reads what `clap` found. `--cleartext` is accepted and ignored.
 pub(crate) fn given_of<'w>(alloc: Global, matches: &ArgMatches<'w>) -> Result<Given<'w>, AllocError>
     ensures { IfOk result (λ given. given ≡ given_of (rows_of (found_of matches.now))) }
 {
@@ -88,14 +88,14 @@ pub(crate) fn given_of<'w>(alloc: Global, matches: &ArgMatches<'w>) -> Result<Gi
     })
 }
 
-/// The value of the option of this name, if it stands in the words.
+/// The value of the option of this name, if the option is present.
 fn value_of<'w>(matches: &ArgMatches<'w>, name: &str) -> Option<&'w str>
     ensures { option_map (λ s. s.now) result ≡ first_of name.now (rows_of (found_of matches.now)) }
 {
     matches.get_str(name)
 }
 
-/// Whether the flag of this name stands in the words.
+/// Whether the flag of this name is present.
 fn is_set(matches: &ArgMatches, name: &str) -> bool
     ensures { result ≡ is_set name.now (rows_of (found_of matches.now)) }
 {
@@ -116,7 +116,7 @@ fn files_of(alloc: Global, matches: &ArgMatches) -> Result<Names, AllocError>
     }
 }
 
-/// Names of these texts.
+/// A list of the given names.
 fn names_of(alloc: Global, texts: &[&str]) -> Result<Names, AllocError>
     ensures { IfOk result (λ names. names ≡ map (λ text. text.now) texts.now) }
 {

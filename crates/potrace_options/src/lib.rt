@@ -1,7 +1,7 @@
-//! Takes the words of `potrace` apart, by `clap`.
+//! Parses the command-line arguments of `potrace`, by `clap`.
 //!
-//! The words are those behind the program's name. What they give is a plain record of texts, flags and
-//! file names: who calls this crate sees neither a command of `clap` nor one of its faults.
+//! The arguments come without the program's name. The result is a plain record of texts, flags and file names. Callers
+//! of this crate see neither a command of `clap` nor one of its errors.
 #![tactic(auto)]
 
 mod command;

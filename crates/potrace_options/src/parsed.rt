@@ -1,4 +1,4 @@
-//! Taking the words apart.
+//! Parsing the command line.
 ghost use Rattle.std.specs.Prelude.{◌≡◌, IfOk, map, string_bytes};
 ghost use Rattle.potrace_options.specs.Parsed.{parsed};
 
@@ -7,18 +7,18 @@ use crate::given::{Given, given_of};
 use clap::error::ErrorKind;
 use std::alloc::{AllocError, Global};
 
-/// What the words come to.
+/// The result of parsing a command line.
 #[derive(Debug, Drop)]
 pub enum Parsed<'w> {
-    /// The words ask for help.
+    /// The arguments ask for help.
     Help,
-    /// The words aren't those of the command.
+    /// The arguments don't fit the command.
     Refused,
-    /// The words give these values.
+    /// The arguments give these values.
     Gives(Given<'w>),
 }
 
-/// Takes the words apart, which come without the program's name.
+/// Parses the arguments, which come without the program's name. An error means that memory ran out.
 pub fn parse<'w>(alloc: Global, words: &'w [String]) -> Result<Parsed<'w>, AllocError>
     ensures { IfOk result (λ answer. answer ≡ parsed (map string_bytes words.entry.now)) }
 {

@@ -1,4 +1,4 @@
--- Words ask for one thing, and what they ask for can be done.
+-- A command line asks for at most one thing.
 use Rattle.std.proofs.Common.{◌≡◌, ◌∙◌, ℕ, Bool, true, false, List, Option, Some, None, refl, sym, ap, sum, arith}
 use Rattle.pt_base.proofs.Decimals.{one_micro}
 use Rattle.pt_core.specs.declared.policy.Policy.{Policy}
@@ -15,9 +15,9 @@ use Rattle.potrace_words.specs.declared.ask.Ask.TheVariants.{Help, Version, Demo
 use Rattle.potrace_words.specs.Asked.{Asks, AsksOf, GivesSettings, IsAsked, IsMicroOr, IsWholeOf, IsWholeOr, NamesBackend, NamesPolicy, policy_word}
 use Rattle.pt_core.specs.Needs.{backend_word}
 
--- One ask.
+-- At most one thing.
 
--- the sums of the letters of two words differ
+-- two names differ if the sums of their letters do
 same_policy : (p q : Policy) → policy_word p ≡ policy_word q → p ≡ q
 same_policy Left Left e = refl
 same_policy Right Right e = refl
@@ -90,7 +90,7 @@ one_settings g s t a b =
       invert = invert i;
     }
 
--- a value isn't also left out
+-- a value that is given isn't missing
 not_both : (text : Option (List ℕ)) (n : ℕ) → IsWholeOf text 1 64 n → text ≡ None → ⊥
 not_both None n a none = a
 not_both (Some text) n a none = let e : Some text ≡ None = none in cc

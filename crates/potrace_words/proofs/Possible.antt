@@ -1,4 +1,4 @@
--- What words ask for can be done.
+-- What a command line asks for can be done.
 use Rattle.std.proofs.Common.{◌≡◌, ◌≢◌, ◌≤◌, ℕ, Bool, true, false, List, [], ◌∷◌, Option, Some, None, All, sym, ap, subst, codes, length, refl, arith}
 use Rattle.std.proofs.lemmas.List.Elements.{All-cons, All-nil}
 use Rattle.pt_core.specs.declared.settings.Backend.{Backend}
@@ -15,7 +15,7 @@ use Rattle.potrace_words.specs.declared.ask.Ask.{Ask}
 use Rattle.potrace_words.specs.declared.ask.Ask.TheVariants.{Help, Version, Demo, Files}
 use Rattle.potrace_words.specs.Asked.{Asks, AsksDemo, AsksFiles, AsksOf, CanBeDone, CertifiesFirst, GivesSettings, IsAsked, IsMicroOr, IsWholeOf, IsWholeOr, inputs_of}
 
--- a number is in its range where its default is
+-- a number is in its range if its default is
 whole_within : (text : Option (List ℕ)) (default least most n : ℕ) → least ≤ default → default ≤ most → IsWholeOr text default least most n
     → (least ≤ n) × (n ≤ most)
 whole_within None default least most n from to is = rw is (from, to)
@@ -29,7 +29,7 @@ micro_within : (text : Option (List ℕ)) (default most n : ℕ) → default ≤
 micro_within None default most n to is = rw is to
 micro_within (Some text) default most n to is = is.1
 
--- what can be drawn can be written by each backend
+-- settings that can be drawn can be written by each backend
 can_write : (backend : Backend) (settings : Settings) → CertifiesFirst backend settings.cyclic → CanDraw settings → CanWriteUnder backend settings
 can_write Points settings first can = tt
 can_write Polygons settings first can = tt

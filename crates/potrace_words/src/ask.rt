@@ -1,23 +1,23 @@
-//! What the words of the command line ask for.
+//! What the command line asks for.
 
 use pt_core::Settings;
 use run_output::{Name, Names};
 
-/// What the words ask for.
+/// What the command line asks for.
 #[derive(Debug, Drop)]
 pub enum Ask {
-    /// How the program is used.
+    /// A description of how the program is used.
     Help,
-    /// Which version it is.
+    /// The program's version.
     Version,
-    /// So many made-up pages, to be traced by so many workers.
+    /// This number of made-up pages, to be traced by this number of workers.
     Demo {
         pages: u32,
         workers: u32,
         settings: Settings,
     },
-    /// Files in this order, to be traced by so many workers. The file `-` is standard input. An output
-    /// names all documents.
+    /// These files in order, to be traced by this number of workers. The file `-` is standard input. If there is an
+    /// output, it gives all documents their name.
     Files {
         names: Names,
         output: Option<Name>,
@@ -26,10 +26,10 @@ pub enum Ask {
     },
 }
 
-/// Why the words ask for nothing.
+/// Why the command line asks for nothing.
 #[derive(Clone, Copy, Debug, PartialEq, Eq)]
 pub enum WordFault {
-    /// The words aren't the program's.
+    /// The program doesn't accept the arguments.
     Bad,
     /// Memory ran out.
     NoMemory,

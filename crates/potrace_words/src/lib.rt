@@ -1,4 +1,4 @@
-//! What the words of `potrace` ask for: made-up pages or files, and the settings to trace them under.
+//! What the command line of `potrace` asks for: made-up pages or files, and the settings to trace them under.
 #![tactic(auto)]
 
 pub mod ask;

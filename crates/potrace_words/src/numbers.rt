@@ -1,11 +1,12 @@
-//! Numbers among the words, and what stands for them where they are left out.
+//! Numbers on the command line, and their defaults.
 ghost use Rattle.std.specs.Prelude.{◌≤◌, ◌*◌, ◌^◌, ℕ, IfNone, IfSome, option_map};
 ghost use Rattle.pt_base.specs.Micro.{IsMicro};
 ghost use Rattle.potrace_words.specs.Asked.{IsMicroOr, IsWholeOf, IsWholeOr};
 
 use pt_base::{read_micro, read_whole};
 
-/// The whole number of this text from least to most, or the default where there is no text.
+/// The whole number from `least` to `most` that this text spells, or the default if there is no text. `None` if the
+/// text is no such number.
 pub(crate) fn whole_or(text: Option<&str>, default: u32, least: u32, most: u32) -> Option<u32>
     ensures taken { IfSome result
         (IsWholeOr (option_map (λ s. s.now) text.entry) default least most) }
@@ -18,7 +19,7 @@ pub(crate) fn whole_or(text: Option<&str>, default: u32, least: u32, most: u32) 
     }
 }
 
-/// The whole number of this text from least to most, if there is a text.
+/// The whole number from `least` to `most` that this text spells. `None` if there is no text or it is no such number.
 pub(crate) fn whole_of(text: Option<&str>, least: u32, most: u32) -> Option<u32>
     ensures taken { IfSome result (IsWholeOf (option_map (λ s. s.now) text.entry) least most) }
     ensures refused { IfNone result ((n : ℕ)
@@ -30,8 +31,8 @@ pub(crate) fn whole_of(text: Option<&str>, least: u32, most: u32) -> Option<u32>
     }
 }
 
-/// The millionths of the decimal number of this text, if they are at most so many, or the default where
-/// there is no text.
+/// The decimal number that this text spells, in millionths and at most `most`, or the default if there is no text.
+/// `None` if the text is no such number.
 pub(crate) fn micro_or(text: Option<&str>, default: u32, most: u32) -> Option<u32>
     requires { most ≤ 1000 * 10 ^ 6 }
     ensures taken { IfSome result (IsMicroOr (option_map (λ s. s.now) text.entry) default most) }
@@ -44,7 +45,7 @@ pub(crate) fn micro_or(text: Option<&str>, default: u32, most: u32) -> Option<u3
     }
 }
 
-/// The millionths of a decimal number, if they are at most so many.
+/// The decimal number that this text spells, in millionths, if it is at most `most`.
 fn micro_at_most(text: &str, most: u32) -> Option<u32>
     requires { most ≤ 1000 * 10 ^ 6 }
     ensures read { IfSome result (λ n. IsMicro text.now n × (n ≤ most)) }

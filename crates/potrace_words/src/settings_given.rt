@@ -9,41 +9,41 @@ use crate::numbers::{micro_or, whole_or};
 use potrace_options::Given;
 use pt_core::{Backend, Policy, Settings, backend_of};
 
-/// The speckle limit where no word says one, in pixels.
+/// The default speckle limit, in pixels.
 const DEFAULT_SPECKLE: u32 = 2;
 
 /// The greatest speckle limit, in pixels.
 const GREATEST_SPECKLE: u32 = 1_000_000_000;
 
-/// The corner threshold where no word says one, in millionths.
+/// The default corner threshold, in millionths.
 const DEFAULT_ALPHAMAX: u32 = 1_000_000;
 
 /// The greatest corner threshold, in millionths.
 const GREATEST_ALPHAMAX: u32 = 1_000_000_000;
 
-/// The tolerance of joined curves where no word says one, in millionths of a pixel.
+/// The default tolerance of joined curves, in millionths of a pixel.
 const DEFAULT_TOLERANCE: u32 = 200_000;
 
 /// The greatest tolerance, in millionths of a pixel.
 const GREATEST_TOLERANCE: u32 = 1_000_000_000;
 
-/// The unit where no word says one: so many of it are a pixel.
+/// The default number of units per pixel.
 const DEFAULT_UNIT: u32 = 10;
 
-/// The least unit.
+/// The least number of units per pixel.
 const LEAST_UNIT: u32 = 1;
 
-/// The greatest unit.
+/// The greatest number of units per pixel.
 const GREATEST_UNIT: u32 = 1000;
 
-/// The black level where no word says one, in millionths.
+/// The default black level, in millionths.
 const DEFAULT_LEVEL: u32 = 500_000;
 
 /// The greatest black level, in millionths.
 const GREATEST_LEVEL: u32 = 1_000_000;
 
-/// The settings that the options give, if each value is in its range, at most one backend is named, and no
-/// certificate is asked for of a polygon through any point.
+/// The settings that the options give. `None` if a value is out of its range, if more than one backend is named, or if
+/// certificates are asked for together with `--cyclic`.
 pub(crate) fn settings_given(given: &Given) -> Option<Settings>
     ensures given { IfSome result (GivesSettings given.now) }
     ensures refused { IfNone result ((settings : Settings) → GivesSettings given.now settings → ⊥) }
@@ -73,7 +73,7 @@ pub(crate) fn settings_given(given: &Given) -> Option<Settings>
     })
 }
 
-/// The backend that `-b`, `-s` or `-e` names, if at most one of them is given: EPS, where none is.
+/// The backend that `-b`, `-s` or `-e` names, or EPS if none of them is given. `None` if more than one is given.
 fn backend_given(name: Option<&str>, svg: bool, eps: bool) -> Option<Backend>
     ensures named { IfSome result (NamesBackend (option_map (λ s. s.now) name.entry) svg eps) }
     ensures refused { IfNone result ((backend : Backend)
@@ -91,7 +91,7 @@ fn backend_given(name: Option<&str>, svg: bool, eps: bool) -> Option<Backend>
     }
 }
 
-/// The policy that `-z` names.
+/// The turn policy that `-z` names, or the default.
 fn policy_given(name: Option<&str>) -> Option<Policy>
     ensures named { IfSome result (NamesPolicy (option_map (λ s. s.now) name.entry)) }
     ensures refused { IfNone result ((policy : Policy)
@@ -103,7 +103,7 @@ fn policy_given(name: Option<&str>) -> Option<Policy>
     }
 }
 
-/// The policy of this word.
+/// The turn policy of this name.
 fn policy_of(word: &str) -> Option<Policy>
     ensures named { IfSome result (λ policy. word.now ≡ policy_word policy) }
     ensures unnamed { IfNone result ((policy : Policy) → word.now ≡ policy_word policy → ⊥) }

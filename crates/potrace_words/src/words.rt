@@ -1,4 +1,4 @@
-//! Reading the words of the command line.
+//! Reading the command line.
 ghost use Rattle.std.specs.Str.{bytes_eq};
 ghost use Rattle.std.specs.Prelude.{◌≡◌, ◌≢◌, ◌↔◌, ℕ, [], All, IfNone, IfOk, IfSome, IsErrOf, IsTrue, None, Some, count_by, false, map, option_map, string_bytes};
 ghost use Rattle.run_output.specs.Names.{dash};
@@ -13,7 +13,7 @@ use pt_core::Settings;
 use run_output::{Name, Names};
 use std::alloc::{AllocError, Global};
 
-/// The number of workers where no word says one.
+/// The default number of workers.
 const DEFAULT_WORKERS: u32 = 4;
 
 /// The greatest number of workers.
@@ -22,7 +22,7 @@ const GREATEST_WORKERS: u32 = 64;
 /// The greatest number of made-up pages.
 const GREATEST_DEMO: u32 = 64;
 
-/// What the words ask for, which come without the program's name.
+/// What the arguments ask for. They come without the program's name.
 pub fn settings_of(alloc: Global, words: &[String]) -> Result<Ask, WordFault>
     ensures ok { IfOk result (IsAsked (map string_bytes words.now)) }
     ensures bad { IsErrOf result WordFault.Bad
@@ -35,7 +35,7 @@ pub fn settings_of(alloc: Global, words: &[String]) -> Result<Ask, WordFault>
     }
 }
 
-/// What words that come to this ask for.
+/// What a parsed command line asks for.
 fn ask_of(alloc: Global, parsed: Parsed) -> Result<Ask, WordFault>
     ensures ok { IfOk result (Asks parsed.entry) }
     ensures bad { IsErrOf result WordFault.Bad → (ask : Ask) → Asks parsed.entry ask → ⊥ }
@@ -69,7 +69,7 @@ fn given_ask(alloc: Global, given: Given) -> Result<Ask, WordFault>
     }
 }
 
-/// How many workers there are to be.
+/// The number of workers. `None` if it is out of its range.
 fn workers_given(text: Option<&str>) -> Option<u32>
     ensures taken { IfSome result (IsWholeOr (option_map (λ s. s.now) text.entry) 4 1 64) }
     ensures refused { IfNone result ((workers : ℕ)
@@ -78,7 +78,7 @@ fn workers_given(text: Option<&str>) -> Option<u32>
     whole_or(text, DEFAULT_WORKERS, 1, GREATEST_WORKERS)
 }
 
-/// How many made-up pages there are to be, if a word says it.
+/// The number of made-up pages. `None` if it isn't given or is out of its range.
 fn demo_given(text: Option<&str>) -> Option<u32>
     ensures taken { IfSome result (IsWholeOf (option_map (λ s. s.now) text.entry) 1 64) }
     ensures refused { IfNone result ((pages : ℕ)
@@ -87,8 +87,8 @@ fn demo_given(text: Option<&str>) -> Option<u32>
     whole_of(text, 1, GREATEST_DEMO)
 }
 
-/// Asks for made-up pages to be traced, if their number is in its range, and neither a file nor an output is
-/// named.
+/// Asks for made-up pages to be traced. It is an error if their number is out of its range, or if a file or an output
+/// is named.
 fn demo_ask(given: Given, workers: u32, settings: Settings) -> Result<Ask, WordFault>
     requires demo { given.demo ≢ None }
     requires workers { IsWholeOr given.workers 4 1 64 workers }
@@ -109,7 +109,7 @@ fn demo_ask(given: Given, workers: u32, settings: Settings) -> Result<Ask, WordF
     }
 }
 
-/// Asks for the files to be traced, if their names are proper.
+/// Asks for the files to be traced. It is an error if a name is empty, or if standard input is named more than once.
 fn files_ask(
     alloc: Global,
     given: Given,
@@ -149,7 +149,7 @@ fn is_empty_name(name: Option<&str>) -> bool
     }
 }
 
-/// A name of its own with this text, if there is one.
+/// An owned copy of a name, if there is one.
 fn owned(alloc: Global, name: Option<&str>) -> Result<Option<Name>, AllocError>
     ensures { IfOk result (λ copy. copy ≡ option_map (λ s. s.now) name.entry) }
 {
@@ -159,7 +159,7 @@ fn owned(alloc: Global, name: Option<&str>) -> Result<Option<Name>, AllocError>
     }
 }
 
-/// The files to be read: standard input, where none is named.
+/// The files to read: the named ones, or standard input if none is named.
 fn inputs_of(alloc: Global, mut files: Names) -> Result<Names, AllocError>
     ensures { IfOk result (λ names. names ≡ inputs_of files) }
 {
@@ -183,7 +183,7 @@ fn are_named(files: &[Name]) -> bool
     files.iter().all(|file| !file.as_str().is_empty())
 }
 
-/// How many of the names are that of standard input.
+/// How many of the names mean standard input.
 fn dashes_in(files: &[Name]) -> usize
     ensures { result ≡ count_by (λ name. bytes_eq name dash) files.now }
 {

@@ -1,4 +1,4 @@
--- What the calls of a sink answered, some behind others.
+-- How calls of a sink ended, if further calls follow them.
 use Rattle.std.proofs.Common.{ℕ, true, ◌∙◌, ap, subst}
 use Rattle.pt_core.specs.Counts.{Rose, next_count}
 use Rattle.run_output.specs.Told.{AllWent, BrokeOff, Told}

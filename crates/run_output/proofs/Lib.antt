@@ -1,5 +1,6 @@
+-- Lemmas about names, parts and messages; those that the crates above cite too are public.
 pub mod Calls
-pub mod Cutting
+pub mod CutParts
 pub mod NameExamples
-pub mod Naming
-pub mod Saying
+pub mod NameCounts
+pub mod PieceRuns

@@ -1,4 +1,4 @@
--- The names of some files and documents.
+-- The names of some files and documents, computed.
 use Rattle.std.proofs.Common.{◌≡◌, ◌∷◌, [], None, refl, codes}
 use Rattle.std.specs.Fmt.{digits}
 use Rattle.run_output.specs.Names.{backend_suffix, base_name, document_name, next_name}
@@ -36,7 +36,7 @@ second_hidden = refl
 standard_output : document_name (base_name None (backend_suffix Eps) (codes "-")) 7 ≡ codes "-"
 standard_output = refl
 
--- `a.pbm a.pgm`: the number counts per base name
+-- after `a.pbm` and `b.pgm` the document of `a.pgm` gets the number 2, since numbers count documents of one base name
 next_of_three : next_name (codes "a.eps") (codes "a.eps" ∷ codes "b.eps" ∷ []) ≡ codes "a-2.eps"
 unfolding digits
 next_of_three = refl

@@ -1,9 +1,9 @@
--- How a run ends, as a number.
+-- The number of each exit status.
 use Rattle.std.specs.Prelude.{ℕ}
 use Rattle.run_output.specs.declared.status.Status.{Status}
 use Rattle.run_output.specs.declared.status.Status.TheVariants as status
 
--- the exit status
+-- the number of an exit status
 abbrev pub code_of : Status → ℕ
 code_of status.Done = 0
 code_of status.BadWords = 1

@@ -1,4 +1,4 @@
--- What surrounds a run, as far as it is told: where its bytes come from, where its documents go, and what it says.
+-- What contracts know of the surroundings of a run: its inputs, its outputs and its messages.
 use Rattle.std.specs.Prelude.{◌≡◌, ℕ, ◌≤◌, Bool, List, Option}
 use Rattle.pt_core.specs.Counts.{Rose}
 use Rattle.pt_core.specs.Documents.{Documents, IsSaid}
@@ -7,14 +7,15 @@ use Rattle.pt_core.specs.Files.{Files}
 use Rattle.pt_core.specs.declared.inputs.Inputs.{Ghosts as InputGhosts}
 use Rattle.pt_core.specs.declared.sink.Sink.{Ghosts as SinkGhosts}
 
--- the inputs: the files that they tell, whether one is opened, how many openings there were, and their count of faults
+-- what is known of the inputs: the files, if contracts know them; whether a file is open; how many files were opened;
+-- and the count of faults
 pub record Source : Type 0 where
   pub files : Option Files
   pub is_opened : Bool
   pub openings : ℕ
   pub faults : ℕ
 
--- what inputs tell
+-- what these inputs show
 abbrev pub source_of : {A : Type 0} → InputGhosts A → A → Source
 source_of of_inputs inputs = record {
   files = of_inputs.files inputs;
@@ -23,24 +24,25 @@ source_of of_inputs inputs = record {
   faults = of_inputs.faults inputs;
 }
 
--- what a sink tells: its documents, its count of faults, and what its calls answered
+-- what is known of a sink: its documents, if contracts know them; its count of faults; and how many of its calls failed
+-- and whether the last one did
 pub record Told : Type 0 where
   pub documents : Option Documents
   pub faults : ℕ
   pub failures : Failures
 
--- what this sink tells
+-- what this sink shows
 abbrev pub told_of : {A : Type 0} → SinkGhosts A → A → Told
 told_of of_sink sink =
     record { documents = of_sink.documents sink; faults = of_sink.faults sink; failures = of_sink.failures sink }
 
--- the outputs, whether a document is open there, and the sink for messages
+-- what is known of the outputs, whether a document is open there, and what is known of the sink for messages
 pub record Sinks : Type 0 where
   pub outs : Told
   pub is_open : Bool
   pub errs : Told
 
--- what outputs and a sink for messages tell
+-- what these outputs and this sink for messages show
 abbrev pub sinks_of : {A B : Type 0} → SinkGhosts A → SinkGhosts B → A → B → Sinks
 sinks_of of_outs of_errs outs errs =
     record { outs = told_of of_outs outs; is_open = of_outs.is_ready outs; errs = told_of of_errs errs }
@@ -50,13 +52,13 @@ pub record AllWent (old new : Told) : Type 0 where
   pub steady : new.faults ≡ old.faults
   pub went : new.failures.count ≡ old.failures.count
 
--- one call of a sink failed, and it was the last
+-- one call of a sink failed, and it was the last call
 pub record BrokeOff (old new : Told) : Type 0 where
   pub rose : Rose old.faults new.faults
   pub failed : new.failures ≡ after_err old.failures
 
--- a message was said: it is whole, or the count of faults rose and a front of it stands there; and no call failed, or
--- one did and it was the last, so that the rest of the message was given up
+-- a message was written: the whole message, or a prefix of it if the count of faults rose; at most one call failed, and
+-- it was the last one, after which the rest of the message was dropped
 pub record IsMessage (message : List ℕ) (old new : Told) : Type 0 where
   pub said : IsSaid old.documents new.documents old.faults new.faults message
   pub given_up : StopsAtFailure old.failures new.failures

@@ -8,7 +8,7 @@ use pt_core::{Outputs, SinkFault};
 
 /// Begins a document, writes its text and ends it.
 ///
-/// After a fault nothing more is written: the document is cut off there.
+/// After a fault nothing more is written, so the document is cut off at that point.
 pub fn write_document<O: Outputs>(outs: &mut O, name: &str, text: &[u8]) -> Result<(), SinkFault>
     requires { O.is_ready outs.old ≡ false }
     ensures whole { OnOk result (O.documents outs.new

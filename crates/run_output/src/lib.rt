@@ -1,7 +1,7 @@
-//! What a run puts out: its documents, the names of those, what it says and how it ends.
+//! What a run writes: its documents, their names, its messages and its exit status.
 //!
-//! A document is written whole or cut off by a fault. Its name comes from that of its file, or from the output's,
-//! with a number where documents of the same name were made before.
+//! A document is written whole, or a fault cuts it off. Its name comes from the name of its input file or from the
+//! output's name. If documents of the same name were made before, it gets a number.
 #![tactic(auto)]
 
 pub mod document;

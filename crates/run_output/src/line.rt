@@ -1,6 +1,6 @@
-//! The lines that a program writes to standard error.
+//! Writing lines to standard error.
 //!
-//! Where a write fails, the rest of its line is given up: that call was the last one.
+//! If a write fails, the rest of the line is dropped and no further call is made for it.
 ghost use Rattle.std.specs.Prelude.{◌≡◌, ◌∷◌, [], true, codes, map};
 ghost use Rattle.std.specs.List.{concat};
 ghost use Rattle.run_output.specs.Messages.{file_line, file_page_line, program_line};
@@ -10,7 +10,7 @@ use crate::pieces::write_pieces;
 use itoa::Buffer;
 use pt_core::Sink;
 
-/// Says something as a program.
+/// Writes the line `PROGRAM: TEXT` to standard error.
 pub fn say_line<E: Sink>(errs: &mut E, program: &str, text: &str)
     requires { E.is_ready errs.old ≡ true }
     ensures says { IsMessageTo (program_line program.now text.now) E.Sink errs.old errs.new }
@@ -19,7 +19,7 @@ pub fn say_line<E: Sink>(errs: &mut E, program: &str, text: &str)
     say(errs, &[program.as_bytes(), b": ", text.as_bytes(), b"\n"])
 }
 
-/// Says something of a file as a program.
+/// Writes the line `PROGRAM: NAME: TEXT`, a message about a file.
 pub fn say_of_file<E: Sink>(errs: &mut E, program: &str, name: &str, text: &str)
     requires { E.is_ready errs.old ≡ true }
     ensures says { IsMessageTo (file_line program.now name.now text.now) E.Sink errs.old errs.new }
@@ -38,7 +38,7 @@ pub fn say_of_file<E: Sink>(errs: &mut E, program: &str, name: &str, text: &str)
     )
 }
 
-/// Says something of a page of a file, counted from 1, as a program.
+/// Writes the line `PROGRAM: NAME: page PAGE: TEXT`, a message about a page of a file. Pages are counted from 1.
 pub fn say_of_file_page<E: Sink>(errs: &mut E, program: &str, name: &str, page: u64, text: &str)
     requires { E.is_ready errs.old ≡ true }
     ensures says { IsMessageTo (file_page_line program.now name.now page text.now) E.Sink errs.old errs.new }
@@ -48,7 +48,7 @@ pub fn say_of_file_page<E: Sink>(errs: &mut E, program: &str, name: &str, page: 
     say_of_numbered(errs, program, name, digits.format(page), text)
 }
 
-/// The same of a page whose number is written so.
+/// Like `say_of_file_page`, with the page's number already in decimal digits.
 fn say_of_numbered<E: Sink>(errs: &mut E, program: &str, name: &str, page: &str, text: &str)
     requires { E.is_ready errs.old ≡ true }
     ensures says { IsMessageTo (concat (program.now ∷ codes ": " ∷ name.now ∷ codes ": page "
@@ -70,7 +70,7 @@ fn say_of_numbered<E: Sink>(errs: &mut E, program: &str, name: &str, page: &str,
     )
 }
 
-/// Writes the pieces of a line one after another, and gives up the rest where a write fails.
+/// Writes the pieces of a line in order. If a write fails, the rest is dropped.
 pub(crate) fn say<E: Sink>(errs: &mut E, pieces: &[&[u8]])
     requires { E.is_ready errs.old ≡ true }
     ensures says { IsMessageTo (concat (map (λ piece. piece.now) pieces.now)) E.Sink errs.old errs.new }

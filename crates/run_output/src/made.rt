@@ -1,4 +1,4 @@
-//! What was made: how many documents of each base name, and how many pages these have.
+//! What a run has made: how many documents of each base name, and from how many pages.
 ghost use Rattle.std.specs.Prelude.{◌≡◌, ◌+◌, ◌≤◌, OnErr, OnOk, string_bytes};
 ghost use Rattle.run_output.specs.Inner.Made.{documents_of};
 ghost use Rattle.run_output.specs.Made.{most_pages, no_past, past_with};
@@ -16,7 +16,7 @@ struct FileMade {
 }
 
 impl FileMade {
-    /// How many of its documents have this base name.
+    /// How many documents of this file have this base name.
     fn count(&self, base: &str) -> u32
         ensures { result ≡ documents_of base.now self.now }
     {
@@ -28,10 +28,10 @@ impl FileMade {
     }
 }
 
-/// The documents that were made so far, and how many pages were read for them. Contracts see the base name of each
-/// document, the last one first, and the pages.
+/// The documents that a run has made, and how many pages it read for them. Contracts see the base name of each
+/// document, the latest one first, and the number of pages.
 ///
-/// There is an entry for each file, so a name is looked for once a file and not once a page.
+/// It has one entry for each file, so that names are compared once a file and not once a page.
 #[derive(Drop)]
 pub struct Made {
     files: Vec<FileMade>,
@@ -51,7 +51,7 @@ impl Model for Made {
 }
 
 impl Made {
-    /// No document was made.
+    /// Nothing was made yet.
     pub fn new(alloc: Global) -> Made
         ensures { result ≡ no_past }
     {
@@ -81,7 +81,7 @@ impl Made {
         count
     }
 
-    /// Adds so many documents of a file, which have so many pages.
+    /// Records a file that produced `documents` documents from `pages` pages. After an error nothing is recorded.
     pub fn add(&mut self, base: String, documents: u32, pages: u32) -> Result<(), NoMemory>
         requires few { documents ≤ pages }
         requires room { pages + self.old.pages ≤ most_pages }

@@ -7,13 +7,13 @@ use crate::line::{say, say_line, say_of_file, say_of_file_page};
 use itoa::Buffer;
 use pt_core::Sink;
 
-/// The tracer's name, as it stands in front of what it says.
+/// The tracer's name, with which its messages begin.
 pub const TRACER: &str = "potrace";
 
-/// What it says where the words aren't its own.
+/// The message about command-line arguments that the tracer doesn't accept.
 pub const BAD_WORDS: &str = "bad arguments, see potrace -h";
 
-/// Says that the words aren't the program's.
+/// Reports arguments that the program doesn't accept.
 pub fn say_bad_words<E: Sink>(errs: &mut E)
     requires { E.is_ready errs.old ≡ true }
     ensures says { IsMessageTo bad_words E.Sink errs.old errs.new }
@@ -22,7 +22,7 @@ pub fn say_bad_words<E: Sink>(errs: &mut E)
     say_line(errs, TRACER, BAD_WORDS)
 }
 
-/// Says that memory ran out.
+/// Reports that memory ran out.
 pub fn say_out_of_memory<E: Sink>(errs: &mut E)
     requires { E.is_ready errs.old ≡ true }
     ensures says { IsMessageTo out_of_memory E.Sink errs.old errs.new }
@@ -31,7 +31,7 @@ pub fn say_out_of_memory<E: Sink>(errs: &mut E)
     say_line(errs, TRACER, "out of memory")
 }
 
-/// Says that a file couldn't be opened.
+/// Reports that a file couldn't be opened.
 pub fn say_not_opened<E: Sink>(errs: &mut E, name: &str)
     requires { E.is_ready errs.old ≡ true }
     ensures says { IsMessageTo (not_opened name.now) E.Sink errs.old errs.new }
@@ -40,7 +40,7 @@ pub fn say_not_opened<E: Sink>(errs: &mut E, name: &str)
     say_of_file(errs, TRACER, name, "cannot be opened")
 }
 
-/// Says that a document couldn't be written.
+/// Reports that a document couldn't be written.
 pub fn say_not_written<E: Sink>(errs: &mut E, name: &str)
     requires { E.is_ready errs.old ≡ true }
     ensures says { IsMessageTo (not_written name.now) E.Sink errs.old errs.new }
@@ -49,7 +49,7 @@ pub fn say_not_written<E: Sink>(errs: &mut E, name: &str)
     say_of_file(errs, TRACER, name, "write fault")
 }
 
-/// Says something of a page of a file, counted from 1.
+/// Reports something about a page of a file. Pages are counted from 1.
 pub fn say_of_page<E: Sink>(errs: &mut E, name: &str, page: u64, text: &str)
     requires { E.is_ready errs.old ≡ true }
     ensures says { IsMessageTo (page_line name.now page text.now) E.Sink errs.old errs.new }
@@ -58,7 +58,7 @@ pub fn say_of_page<E: Sink>(errs: &mut E, name: &str, page: u64, text: &str)
     say_of_file_page(errs, TRACER, name, page, text)
 }
 
-/// Says that bytes after so many pages of a file begin no page.
+/// Reports that the bytes after the last page of a file, page number `pages`, don't begin another page.
 pub fn say_trailing<E: Sink>(errs: &mut E, name: &str, pages: u64)
     requires { E.is_ready errs.old ≡ true }
     ensures says { IsMessageTo (trailing_line name.now pages) E.Sink errs.old errs.new }

@@ -1,4 +1,4 @@
-//! The name of a file or of a document, and names in order.
+//! The name of a file or of a document, and lists of names.
 ghost use Rattle.std.specs.Prelude.{◌≡◌, ◌++◌, ◌∷◌, [], IfOk, OnOk, OnErr};
 
 use std::alloc::{AllocError, Global};
@@ -19,6 +19,7 @@ impl Model for Name {
 }
 
 impl Name {
+    /// Copies a text as a name.
     pub fn from_str(alloc: Global, text: &str) -> Result<Name, AllocError>
         ensures { IfOk result (λ name. name ≡ text.now) }
     {
@@ -26,6 +27,7 @@ impl Name {
         Ok(Name { text })
     }
 
+    /// The name as a text.
     pub fn as_str(&self) -> &str
         ensures { result.now ≡ self.now }
     {
@@ -33,7 +35,7 @@ impl Name {
     }
 }
 
-/// Names in order. Contracts see the list of their bytes.
+/// A list of names. Contracts see their bytes, in order.
 #[derive(Debug, Drop)]
 pub struct Names {
     items: Vec<Name>,
@@ -48,6 +50,7 @@ impl Model for Names {
 }
 
 impl Names {
+    /// An empty list.
     pub fn new(alloc: Global) -> Names
         ensures { result ≡ [] }
     {
@@ -56,7 +59,7 @@ impl Names {
         }
     }
 
-    /// Adds a name at the end.
+    /// Appends a name. After an error the list is as it was.
     pub fn push(&mut self, name: Name) -> Result<(), AllocError>
         ensures added { OnOk result (self.new ≡ self.old ++ name ∷ []) }
         ensures kept { OnErr result (self.new ≡ self.old) }
@@ -65,6 +68,7 @@ impl Names {
         Ok(())
     }
 
+    /// The names in order.
     pub fn as_slice(&self) -> &[Name]
         ensures { result.now ≡ self.now }
     {

@@ -1,4 +1,4 @@
-//! The names of documents, from those of files or of the output.
+//! The names of documents, from the names of input files or of the output.
 ghost use Rattle.std.specs.Prelude.{◌≡◌, ◌≤◌, ◌<◌, ◌++◌, None, IfOk, IfSome, OnOk, codes, get_or, length, option_map, string_bytes};
 ghost use Rattle.std.specs.Str.{IsCharBoundary};
 ghost use Rattle.run_output.specs.Names.{backend_suffix, base_name, document_name, last_place, part_begins, stem_of, suffix_begins, suffix_of};
@@ -7,7 +7,8 @@ use itoa::Buffer;
 use pt_core::Backend;
 use std::alloc::{AllocError, Global};
 
-/// The name by which all documents of a file go that have this suffix, where the output has no name of its own.
+/// The base name of all documents of a file. It is the output's name if one is given; else the file's name with
+/// `suffix` instead of its own suffix.
 pub fn base_name(
     alloc: Global,
     output: Option<&str>,
@@ -35,7 +36,7 @@ fn file_base_name(alloc: Global, suffix: &str, file: &str) -> Result<String, All
     Ok(name)
 }
 
-/// The suffix of a backend's documents.
+/// The suffix of a backend's documents, with its dot.
 pub fn backend_suffix(backend: Backend) -> &'static str
     ensures { result.now ≡ backend_suffix backend }
 {
@@ -62,7 +63,7 @@ pub fn document_name(alloc: Global, base: &str, k: u32) -> Result<String, AllocE
     numbered_name(alloc, base, digits.format(k))
 }
 
-/// A base name with this number, in digits, before its suffix.
+/// A base name with a dash and this number before its suffix. The number is given in digits.
 fn numbered_name(alloc: Global, base: &str, number: &str) -> Result<String, AllocError>
     ensures { IfOk result (λ name. string_bytes name
         ≡ stem_of base.now ++ (codes "-" ++ (number.now ++ suffix_of base.now))) }
@@ -83,7 +84,7 @@ fn push_number(name: &mut String, number: &str, suffix: &str) -> Result<(), Allo
     name.push_str(suffix)
 }
 
-/// Where the suffix of a name begins: at the end where it has none.
+/// The index at which the suffix of a name begins, or its length if it has no suffix.
 fn suffix_begins(name: &str) -> usize
     ensures value { result ≡ suffix_begins name.now }
     ensures boundary { IsCharBoundary name.now result }
@@ -95,7 +96,7 @@ fn suffix_begins(name: &str) -> usize
     }
 }
 
-/// Where the last part of a name begins.
+/// The index at which the last part of a path begins, after its last slash.
 fn part_begins(name: &[u8]) -> usize
     ensures { result ≡ part_begins name.now }
 {
@@ -105,7 +106,7 @@ fn part_begins(name: &[u8]) -> usize
     }
 }
 
-/// Where the last such byte stands.
+/// The index of the last byte of this value, if there is one.
 fn last_place(name: &[u8], byte: u8) -> Option<usize>
     ensures value { result ≡ last_place byte name.now }
     ensures found { IfSome result

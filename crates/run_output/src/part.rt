@@ -1,7 +1,7 @@
-//! Writing documents in parts: a page is a whole document, or goes into one with the other pages of its file.
+//! Writing documents in parts. A page is a document of its own, or a part of the one document of its file.
 //!
-//! A part begins its document or goes on with the open one, and ends it or leaves it open. Writing one takes no
-//! memory: its pieces are written one after another.
+//! A part begins its document or continues the open one, and ends it or leaves it open. Writing a part allocates no
+//! memory, because its pieces are written in order.
 ghost use Rattle.std.specs.Prelude.{◌≡◌, ◌≤◌, suc, [], true, false, not, map, OnOk, OnErr};
 ghost use Rattle.run_output.specs.Made.{documents_before, documents_in};
 ghost use Rattle.run_output.specs.Parts.{IsCutIn, begun, binding_of, end_part, ended, is_first_page, page_part, part_in_pieces, prolog_before, with_part};
@@ -13,7 +13,7 @@ use crate::pieces::write_pieces;
 use itoa::Buffer;
 use pt_core::{Backend, Outputs, SinkFault};
 
-/// How the pages of a file are bound: each is a document, or all together are one.
+/// How the pages of a file become documents: one document for each page, or one for all pages together.
 #[derive(Clone, Copy, Debug, PartialEq, Eq)]
 pub enum Binding {
     Apart,
@@ -21,7 +21,7 @@ pub enum Binding {
 }
 
 impl Binding {
-    /// How the pages of a file are bound in a backend's documents.
+    /// The binding that documents of this backend have.
     pub fn of(backend: Backend) -> Binding
         ensures { result ≡ binding_of backend }
     {
@@ -37,7 +37,7 @@ impl Binding {
         }
     }
 
-    /// How many documents a file of so many pages has.
+    /// How many documents a file with this number of pages has.
     pub fn documents_in(self, pages: u32) -> u32
         ensures value { result ≡ documents_in self pages }
         ensures few { result ≤ pages }
@@ -49,7 +49,7 @@ impl Binding {
         }
     }
 
-    /// How many documents of its file come before that of a page, which so many pages of the file come before.
+    /// How many documents of the same file are complete before a page. `pages` is the number of pages before it.
     pub fn documents_before(self, pages: u32) -> u32
         ensures value { result ≡ documents_before self pages }
         ensures few { result ≤ pages }
@@ -61,13 +61,13 @@ impl Binding {
     }
 }
 
-/// What stands before all pages that are bound together.
+/// The beginning of a PostScript document, before its first page.
 const PROLOG: &[u8] = b"%!PS-Adobe-3.0\n%%Pages: (atend)\n%%EndComments\n";
 
-/// Begins the document of this name, where the part begins one; writes the pieces one after another; and ends the
-/// document, where the part ends it.
+/// Writes a part of the document with this name. It begins the document if `begins`, writes the pieces in order, and
+/// ends the document if `ends`.
 ///
-/// After a fault nothing more is written: the part is cut off there.
+/// After a fault nothing more is written, so the part is cut off at that point.
 pub(crate) fn write_part<O: Outputs>(
     outs: &mut O,
     name: &str,
@@ -97,7 +97,7 @@ pub(crate) fn write_part<O: Outputs>(
     }
 }
 
-/// Begins the document, where the part begins one.
+/// Begins the document if `begins`; else does nothing.
 fn begin_where<O: Outputs>(outs: &mut O, begins: bool, name: &str) -> Result<(), SinkFault>
     requires turn { O.is_ready outs.old ≡ not begins }
     ensures begun { OnOk result (O.documents outs.new ≡ begun begins (O.documents outs.old) name.now) }
@@ -115,7 +115,7 @@ fn begin_where<O: Outputs>(outs: &mut O, begins: bool, name: &str) -> Result<(),
     }
 }
 
-/// Ends the document, where the part ends it.
+/// Ends the document if `ends`; else does nothing.
 fn end_where<O: Outputs>(outs: &mut O, ends: bool) -> Result<(), SinkFault>
     requires { O.is_ready outs.old ≡ true }
     ensures ended { OnOk result (O.documents outs.new ≡ ended ends (O.documents outs.old)) }
@@ -133,7 +133,8 @@ fn end_where<O: Outputs>(outs: &mut O, ends: bool) -> Result<(), SinkFault>
     }
 }
 
-/// Writes the part that is a page, behind so many pages of its file, of the document of this name.
+/// Writes a page as a part of the document with this name. `before` is the number of pages of the same file that come
+/// before it.
 pub fn write_page_part<O: Outputs>(
     outs: &mut O,
     binding: Binding,
@@ -159,7 +160,8 @@ pub fn write_page_part<O: Outputs>(
     }
 }
 
-/// The same where the pages of a file are bound together, and this stands before the page.
+/// Like `write_page_part`, if all pages of a file are one document. `prolog` is what comes before the page, which is
+/// empty except before the first one.
 fn write_page_together<O: Outputs>(
     outs: &mut O,
     name: &str,
@@ -188,7 +190,7 @@ fn write_page_together<O: Outputs>(
     }
 }
 
-/// Ends the open document, which has this name and so many pages.
+/// Ends the open document, which has this name and this number of pages.
 pub fn write_end_part<O: Outputs>(outs: &mut O, name: &str, pages: u32) -> Result<(), SinkFault>
     requires turn { O.is_ready outs.old ≡ true }
     ensures written { OnOk result (O.documents outs.new

@@ -1,4 +1,4 @@
-//! Writing pieces one after another.
+//! Writing pieces of bytes in order.
 ghost use Rattle.std.specs.Prelude.{◌≡◌, ◌≤◌, ℕ, true, length, map, take, OnOk, OnErr};
 ghost use Rattle.std.specs.List.{concat};
 ghost use Rattle.pt_core.specs.Documents.{with_bytes};
@@ -7,9 +7,9 @@ ghost use Rattle.run_output.specs.Inner.Told.{CallsEnd};
 use pt_base::write_whole;
 use pt_core::{Sink, SinkFault};
 
-/// Writes the pieces one after another.
+/// Writes the pieces in order.
 ///
-/// A `SinkFault` means that a call failed: a prefix of all their bytes was appended then, and the rest is given up.
+/// A `SinkFault` means that a call failed. A prefix of the pieces' bytes was then appended, and the rest is dropped.
 pub(crate) fn write_pieces<S: Sink>(sink: &mut S, pieces: &[&[u8]]) -> Result<(), SinkFault>
     requires { S.is_ready sink.old ≡ true }
     ensures appended { OnOk result (S.documents sink.new

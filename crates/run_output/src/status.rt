@@ -7,17 +7,17 @@ ghost use Rattle.run_output.specs.Status.{code_of};
 pub enum Status {
     /// All that was asked for is done.
     Done,
-    /// The words aren't the program's.
+    /// The program doesn't accept its command-line arguments.
     BadWords,
-    /// A page is refused.
+    /// A page was refused.
     Refused,
-    /// A file can't be opened, or a read failed.
+    /// A file couldn't be opened, or a read failed.
     Unread,
     /// A document couldn't be written.
     Unwritten,
     /// Memory ran out.
     OutOfMemory,
-    /// The document is whole, and tells that the input is wrong.
+    /// The document is complete, and it says that the input is wrong.
     Wrong,
 }
 

@@ -1,4 +1,4 @@
-//! The words that a program was started with.
+//! The command-line arguments that a program was started with.
 ghost use Rattle.std.specs.Prelude.{◌≡◌, ◌⊎◌, true, codes, IfErr, OnOk};
 ghost use Rattle.run_output.specs.Messages.{program_line};
 ghost use Rattle.run_output.specs.Told.{told_of};
@@ -12,8 +12,10 @@ use std::alloc::Global;
 use std::env::{self, Args, Env};
 use std::io::ErrorKind;
 
-/// The words behind the program's own name. One that isn't UTF-8 is a word too, and no program here takes such a word,
-/// so it is refused at once: the program says this text. An `Err` says how the run ends: that is said.
+/// The command-line arguments, without the program's own name.
+///
+/// An argument that isn't UTF-8 is refused with the text `refusal`, since no program here accepts one. On an `Err` the
+/// message has been written already, and the status is the one that the run ends with.
 pub fn words_of<R: Env + Alloc<A = Global>, E: Sink>(
     rt: &R,
     program: &str,
@@ -48,7 +50,7 @@ pub fn words_of<R: Env + Alloc<A = Global>, E: Sink>(
     }
 }
 
-/// All but the first.
+/// All arguments except the first one, which is the program's name.
 fn behind_name(alloc: Global, args: Args) -> Result<Vec<String>, NoMemory> {
     let mut words = Vec::new(alloc);
     for word in args.skip(1) {

@@ -1,2 +1,3 @@
-pub mod Taking
-pub mod Running
+-- Lemmas about the runs of small programs and their input.
+pub mod TakenInput
+pub mod Endings

@@ -1,3 +1,3 @@
--- What inner contracts alone speak of: no promise rests on it.
+-- Definitions that only inner contracts use. No promise rests on them.
 pub mod ProgramRun
 pub mod Reply

@@ -12,13 +12,13 @@ use std::alloc::Global;
 /// The most bytes of standard input that a program takes: 2^30.
 pub const MOST_BYTES: usize = 1_073_741_824;
 
-/// How many bytes are read at once, at most.
+/// The most bytes that one call reads.
 const PIECE: usize = 65536;
 
-/// Why standard input isn't there whole.
+/// Why standard input couldn't be read to its end.
 #[derive(Clone, Copy, Debug, PartialEq, Eq)]
 pub enum InputStop {
-    /// It can't be opened, or a read failed.
+    /// It couldn't be opened, or a read failed.
     Unread,
     /// It has more bytes than a program takes.
     TooLong,
@@ -26,14 +26,14 @@ pub enum InputStop {
     OutOfMemory,
 }
 
-/// Opens standard input and reads it to its end, or up to one byte more than a program takes.
+/// Opens standard input and reads it to its end. It stops after one byte more than a program takes.
 pub fn read_all<I: Inputs>(alloc: Global, inputs: &mut I) -> Result<Vec<u8>, InputStop>
     ensures whole { IfOk result (λ bytes. HasInput (I.files inputs.old) bytes.items) }
     ensures few { IfOk result (λ bytes. length bytes.items ≤ MOST_BYTES) }
     ensures too_long { IsErrOf result TooLong → (bytes : List ℕ)
         × HasInput (I.files inputs.old) bytes × (MOST_BYTES < length bytes) }
 
-    // No more is taken of one that is too long.
+    // If standard input is too long, no more of it is taken than that.
     ensures bound { IsErrOf result TooLong → (taken : List ℕ)
         × HasTaken (I.files inputs.old) (I.files inputs.new) taken
         × (length taken ≡ MOST_BYTES + 1) }
@@ -52,7 +52,7 @@ pub fn read_all<I: Inputs>(alloc: Global, inputs: &mut I) -> Result<Vec<u8>, Inp
     }
 }
 
-/// Reads the opened file to its end, or up to one byte more than a program takes.
+/// Reads the open file to its end. It stops after one byte more than a program takes.
 fn read_on<I: Inputs>(alloc: Global, inputs: &mut I) -> Result<Vec<u8>, InputStop>
     requires { I.is_opened inputs.old ≡ true }
     ensures whole { IfOk result (λ bytes. (start : Option Files) → HasTaken start (I.files inputs.old) []
@@ -84,14 +84,15 @@ fn read_on<I: Inputs>(alloc: Global, inputs: &mut I) -> Result<Vec<u8>, InputSto
     Err(InputStop::TooLong)
 }
 
-/// Room for what is read at once.
+/// A buffer for one call of read.
 fn room(alloc: Global) -> Result<Vec<u8>, NoMemory>
     ensures { IfOk result (λ buffer. 0 < length buffer.items) }
 {
     Ok(vec![in alloc; 0u8; PIECE]?)
 }
 
-/// Reads a piece of the opened file and appends it, and answers how many bytes it has: none at the end.
+/// Reads a piece of the open file into `buffer` and appends it to `bytes`. Returns the length of the piece, which is 0
+/// only at the end of the file.
 fn read_piece<I: Inputs>(
     inputs: &mut I,
     buffer: &mut [u8],

@@ -1,4 +1,4 @@
-//! All that a program does.
+//! A whole run of a program.
 ghost use Rattle.std.specs.Prelude.{◌≡◌, ℕ, false, length, true};
 ghost use Rattle.run_output.specs.Told.{sinks_of, source_of};
 ghost use Rattle.run_output.specs.Inner.Told.{IsMessageTo};
@@ -12,11 +12,11 @@ use pt_core::{Inputs, Outputs, Sink};
 use run_output::{Status, say_line, say_of_file, write_document};
 use std::alloc::Global;
 
-/// What the program says where it is given words.
+/// What the program reports if it is given command-line arguments.
 pub const BAD_WORDS: &str = "bad arguments";
 
-/// Has the task reply to standard input, writes the reply's document to standard output or says why there is none, and
-/// answers how it ends. The program's name stands in front of what it says.
+/// Reads standard input, has the task reply to it, and writes the reply's document to standard output or reports why
+/// there is none. Returns the status that the run ends with. Messages begin with the program's name.
 ///
 /// After a fault of the outputs nothing more is written to them.
 pub fn run<I: Inputs, O: Outputs, E: Sink, T: Replies>(
@@ -51,7 +51,7 @@ pub fn run<I: Inputs, O: Outputs, E: Sink, T: Replies>(
     }
 }
 
-/// Says why standard input isn't there whole.
+/// Reports why standard input couldn't be read to its end, and returns the status of that.
 fn say_stop<E: Sink>(program: &str, stop: InputStop, errs: &mut E) -> Status
     requires { E.is_ready errs.old ≡ true }
     ensures ending { result ≡ stop_ending stop }
@@ -73,7 +73,7 @@ fn say_stop<E: Sink>(program: &str, stop: InputStop, errs: &mut E) -> Status
     }
 }
 
-/// Writes the document of a reply, or says why there is none.
+/// Writes the document of a reply, or reports why there is none.
 fn put_reply<O: Outputs, E: Sink>(program: &str, reply: Reply, outs: &mut O, errs: &mut E) -> Status
     requires closed { O.is_ready outs.old ≡ false }
     requires ready { E.is_ready errs.old ≡ true }
@@ -90,7 +90,7 @@ fn put_reply<O: Outputs, E: Sink>(program: &str, reply: Reply, outs: &mut O, err
     }
 }
 
-/// Writes a text as the document, after which the run ends so; or says that it couldn't be written.
+/// Writes a text as the document and returns the status `well`, or reports that it couldn't be written.
 fn put_text<O: Outputs, E: Sink>(
     program: &str,
     text: &[u8],

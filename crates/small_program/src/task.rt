@@ -11,27 +11,28 @@ use std::alloc::Global;
 pub enum Reply {
     /// The document.
     Right(Vec<u8>),
-    /// The document, which tells that the input is wrong.
+    /// The document, which says that the input is wrong.
     Wrong(Vec<u8>),
-    /// The input is refused, and this is why.
+    /// The reason for which the input is refused.
     Refused(&'static str),
 }
 
-/// What a program makes of its whole input. At most one ending and one text belong to an input.
+/// A task: what a program makes of its whole input. An input has at most one ending and one text.
 pub trait Replies {
-    /// Which ending belongs to an input, with which text: the document's, or why the input is refused.
+    /// Which ending an input has, and with which text. The text is that of the document, or the reason for which the
+    /// input is refused.
     ghost makes: { Self → List ℕ → Status → List ℕ → Type 0 };
 
-    /// The reply to the input, whose bytes it may let go.
+    /// The reply to the input. It takes ownership of the input's bytes, so that it can free them.
     fn reply(&self, alloc: Global, bytes: Vec<u8>) -> Result<Reply, NoMemory>
         ensures { IfOk result (λ reply.
             makes self.now bytes.items (reply_ending reply) (reply_text reply)) };
 
-    /// No two endings belong to an input.
+    /// An input has at most one ending.
     ghost one_ending: { (task : Self) (bytes a b : List ℕ) (this that : Status)
         → makes task bytes this a → makes task bytes that b → this ≡ that };
 
-    /// No two texts belong to it.
+    /// An input has at most one text.
     ghost one_text: { (task : Self) (bytes a b : List ℕ) (this that : Status)
         → makes task bytes this a → makes task bytes that b → a ≡ b };
 }

@@ -1,7 +1,7 @@
-//! A page's outlines as Scalable Vector Graphics.
+//! Writes a page's outlines as Scalable Vector Graphics.
 //!
-//! A path begins at the end of its last piece, and goes on by steps relative to the point before
-//! (`l`) or to the curve's beginning (`c`).
+//! A path begins at the end of its last piece. Lines (`l`) are relative to the point before, and curves (`c`) relative
+//! to their own start.
 //!
 //! ```text
 //! <path fill-rule="evenodd" d="M5 10 c-3 0 -5 -2 -5 -5 c0 -3 2 -5 5 -5 .. z"/>

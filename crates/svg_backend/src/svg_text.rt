@@ -7,11 +7,11 @@ use outline_pen::{put_groups, put_one};
 use pt_core::{NoMemory, Settings, Trace, put_number};
 use std::alloc::Global;
 
-/// The document of a page's trace: one path for each shape with its holes, or one path for all
-/// outlines where the settings ask for it (`flat`).
+/// The document of a page's trace. It has one path for each shape with its holes, or one path for all outlines if the
+/// settings say `flat`.
 ///
-/// Coordinates are rounded to units, of which a pixel has `settings.unit`. A group's path that has no
-/// outline in the trace is drawn as an outline of no pieces.
+/// Coordinates are rounded to whole units, and a pixel has `settings.unit` units. A group's path without an outline in
+/// the trace is drawn as an outline of no pieces.
 pub fn svg(alloc: Global, trace: &Trace, settings: &Settings) -> Result<Vec<u8>, NoMemory>
     requires some { 1 ≤ settings.now.unit }
     requires most { settings.now.unit ≤ 1000 }
@@ -54,7 +54,7 @@ fn put_sides(out: &mut Vec<u8>, unit: u32, width: u32, height: u32) -> Result<()
     Ok(())
 }
 
-/// Appends how large the page is drawn.
+/// Appends the size at which the page is drawn: a pixel is a point.
 fn put_size(out: &mut Vec<u8>, width: u32, height: u32) -> Result<(), NoMemory>
     ensures { OnOk result (out.new.items ≡ out.old.items ++ size_text width height) }
 {
@@ -65,7 +65,7 @@ fn put_size(out: &mut Vec<u8>, width: u32, height: u32) -> Result<(), NoMemory>
     Ok(())
 }
 
-/// Appends how many units the page has.
+/// Appends the page's width and height in units.
 fn put_view(out: &mut Vec<u8>, unit: u32, width: u32, height: u32) -> Result<(), NoMemory>
     requires { unit ≤ 1000 }
     ensures { OnOk result (out.new.items ≡ out.old.items ++ view_text unit width height) }
@@ -78,7 +78,7 @@ fn put_view(out: &mut Vec<u8>, unit: u32, width: u32, height: u32) -> Result<(),
     Ok(())
 }
 
-/// Appends the line that turns y upwards.
+/// Appends the line that turns the y axis upwards.
 fn put_group_head(out: &mut Vec<u8>, unit: u32, height: u32) -> Result<(), NoMemory>
     requires { unit ≤ 1000 }
     ensures { OnOk result (out.new.items ≡ out.old.items ++ group_head unit height) }

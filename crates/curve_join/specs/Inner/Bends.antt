@@ -3,7 +3,7 @@ use Rattle.std.specs.Prelude.{◌*◌, ◌≤◌, ◌^◌, unsigned_abs}
 use Rattle.curve_join.specs.Vector.{GoesNoFarther, IsPlaced}
 use Rattle.curve_join.specs.declared.bend.Bend.{Bend}
 
--- the numbers of a bend are small enough to work with
+-- the numbers of a bend are small enough for computations in 64 and 128 bits
 pub record IsWorkable (b : Bend) : Type 0 where
   pub at : IsPlaced (2 ^ 26) b.at
   pub start : IsPlaced (2 ^ 26) b.start

@@ -1,11 +1,11 @@
-//! Pieces that were worked out by hand.
+//! Pieces that were computed by hand.
 
 use super::samples::{Place, Row, pieces, points_at};
 use corner_smooth::smooth;
 use std::alloc::Global;
 use std::test::Fail;
 
-/// Whether the outline round these places has these pieces.
+/// Whether the outline around these points has these pieces.
 fn is_smoothed(alloc: Global, places: &[Place], alphamax: u32, rows: &[Row]) -> Result<bool, Fail> {
     if places.len() < 2 || 1_000_000_000 < alphamax {
         return Ok(false);
@@ -16,13 +16,13 @@ fn is_smoothed(alloc: Global, places: &[Place], alphamax: u32, rows: &[Row]) -> 
     Ok(smoothed.as_slice() == wanted.as_slice())
 }
 
-/// The vertices of a square with one at 0.
+/// The vertices of a square that has one vertex at the origin.
 fn square(side: i32) -> [Place; 4] {
     [(0, side), (0, 0), (side, 0), (side, side)]
 }
 
-/// The pieces round such a square: where the first control stands, and the second one, by the way from the
-/// corner.
+/// The pieces of the outline of such a square. `near` and `far` are the coordinates of the two control points along a
+/// side.
 fn round_square(side: i32, near: i32, far: i32, al: u32) -> [Row; 4] {
     let half = side / 2;
     [
@@ -33,18 +33,18 @@ fn round_square(side: i32, near: i32, far: i32, al: u32) -> [Row; 4] {
     ]
 }
 
-// Each vertex of a square of eight pixels is exactly as sharp as 1, and one of five as 0.8. Each one
-// of a pixel is not sharp at all, but no blunter than 0.55.
+// The vertices of a square of eight pixels have a sharpness of exactly 1, and those of five pixels 0.8. Those of one
+// pixel aren't sharp at all, but the roundness of their curves is at least 0.55.
 const SQUARES: [(i32, u32, i32, i32, u32); 7] = [
-    // Corners as sharp as asked.
+    // Corners exactly as sharp as the threshold.
     (8192, 1_000_000, 0, 8192, 0),
     (5120, 800_000, 0, 5120, 0),
     (1024, 0, 0, 1024, 0),
-    // Curves of less sharp ones.
+    // Curves at vertices that are less sharp.
     (8192, 1_000_001, 0, 8192, 65536),
     (5120, 800_001, 512, 4607, 52428),
     (1024, 1, 230, 793, 36045),
-    // Sharper, but no rounder than 1.
+    // A sharper vertex, with a roundness of at most 1.
     (16384, 1_000_000_000, 0, 16384, 65536),
 ];
 
@@ -58,7 +58,7 @@ fn squares(rt: HostRuntime) -> Result<(), Fail> {
     Ok(())
 }
 
-/// The vertices of an outline, how sharp a corner is at least, and the pieces.
+/// The vertices of an outline, the corner threshold in millionths, and the pieces.
 const OUTLINES: [(&[Place], u32, &[Row]); 5] = [
     // No side along an axis.
     (
@@ -70,7 +70,7 @@ const OUTLINES: [(&[Place], u32, &[Row]); 5] = [
             ((1047, 5088), (1016, 5080), (512, 2560), 64522),
         ],
     ),
-    // To and fro: the neighbours of each vertex are one place, and it is as sharp as 4/3.
+    // There and back: both neighbours of a vertex are the same point, and its sharpness is 4/3.
     (
         &[(0, 1), (2048, 0)],
         1_333_333,

@@ -36,7 +36,7 @@ fn polylines(rt: HostRuntime) -> Result<(), Fail> {
     Ok(())
 }
 
-/// A square round a pixel off the others.
+/// A square around a pixel that is apart from the others.
 const FAR: &[Row] = &[
     ((4096, 5120), (4096, 5120), (4096, 4608), 0),
     ((4096, 4096), (4096, 4096), (4608, 4096), 0),

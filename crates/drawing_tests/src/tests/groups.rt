@@ -24,7 +24,7 @@ const CORNER_IN_HOLE: &[&str] = &["#####", "#...#", "#.#.#", "#..##", "#####"];
 
 const TWO_HOLES: &[&str] = &["..####", "###.#.", "#.####", "####.."];
 
-/// A page, and each shape of it with its holes.
+/// A page, and each of its shapes with its holes.
 const PAGES: [(&[&str], &[(u32, &[u32])]); 6] = [
     (RING, &[(0, &[1])]),
     (TARGET, &[(0, &[1]), (2, &[])]),
@@ -90,12 +90,12 @@ fn paths_of(alloc: Global, rows: &[&str]) -> Result<Vec<Path>, Fail>
         (λ paths. All (λ path. pos 1 ≤ℤ (point_at path.points 0).y) paths.items) }
 {
     let page = drawn(alloc, rows)?;
-    // The proof reads here how long the page's sides are at most.
+    // From this call the proof knows that the page's sides have an upper limit.
     let _ = page.width();
     Ok(decompose(alloc, &page, Policy::Minority)?)
 }
 
-/// All paths but the first.
+/// All paths except the first one.
 fn without_first(paths: &[Path]) -> &[Path]
     requires few { length paths.now < 2 ^ 32 }
     requires closed { All (λ path. IsClosedWalk path.points) paths.now }

@@ -1,4 +1,4 @@
-//! Joined curves and where lines touch a curve, beside values of plain programs.
+//! Joined curves, and the points at which lines touch a curve, compared with plain programs.
 ghost use Rattle.std.specs.Prelude.{◌≡◌, ◌≤◌, ◌<◌, ◌^◌, length};
 ghost use Rattle.curve_join.specs.Inner.Cubic.{LiesWithin};
 ghost use Rattle.curve_join.specs.Vector.{IsPlaced};
@@ -10,7 +10,7 @@ use pt_core::{Piece, Point};
 use std::alloc::Global;
 use std::test::Fail;
 
-/// Whether the joined outline round these places has these pieces. Its corners are at least as sharp as 1.
+/// Whether the joined outline around these points has these pieces. The corner threshold is 1.
 fn is_joined(alloc: Global, places: &[Place], tol: u16, rows: &[Row]) -> Result<bool, Fail> {
     if places.len() < 2 || 100 < places.len() {
         return Ok(false);
@@ -22,7 +22,7 @@ fn is_joined(alloc: Global, places: &[Place], tol: u16, rows: &[Row]) -> Result<
     Ok(joined.as_slice() == wanted.as_slice())
 }
 
-/// The curve in place of some of the smooth pieces round these places, and its penalty.
+/// The curve that replaces some of the smooth pieces around these points, and its penalty.
 fn run(alloc: Global, places: &[Place], first: u32, last: u32) -> Result<Option<(Piece, u64)>, Fail>
     requires some { first < last }
     requires within { last < length places.now }
@@ -66,7 +66,7 @@ fn runs_of_an_octagon(rt: HostRuntime) -> Result<(), Fail> {
     Ok(())
 }
 
-/// The same one to the right.
+/// An octagon like `OCTAGON`, turned to the right.
 const TURNED: &[Place] = &[
     (0, 1024),
     (0, 2048),
@@ -120,7 +120,7 @@ const OUTLINES: [(&[Place], u16, &[Row]); 4] = [
             ((4770, 3210), (3274, 3137), (1500, 2250), 41624),
         ],
     ),
-    // Any two neighbours are half a turn.
+    // Any two neighbours turn by half a turn.
     (
         PIXEL,
         65_535,
@@ -142,7 +142,7 @@ fn joined_outlines(rt: HostRuntime) -> Result<(), Fail> {
     Ok(())
 }
 
-/// A curve whose places have these heights, in units of 2^22, so that all sizes occur.
+/// A curve with these heights of its four points, in units of 2^22, so that all sizes occur.
 fn wave(heights: [i8; 4]) -> Cubic
     ensures { LiesWithin (2 ^ 29) result }
 {
@@ -163,7 +163,7 @@ fn level(height: i8) -> Point
     }
 }
 
-/// The number from 0 to 64 at which a curve of these heights is flattest, found by looking at each.
+/// The number from 0 to 64 at which a curve with these heights is flattest, found by trying all.
 fn flattest(heights: [i8; 4]) -> u8 {
     let mut best = 0;
     let mut least = steepness(heights, 0);
@@ -183,7 +183,7 @@ fn steepness(heights: [i8; 4], u: u8) -> u64 {
     let first = i64::from(heights[1]) - i64::from(heights[0]);
     let second = i64::from(heights[2]) - i64::from(heights[1]);
     let third = i64::from(heights[3]) - i64::from(heights[2]);
-    // Nothing wraps: the sum is below 2^21.
+    // Nothing wraps around, since the sum is below 2^21.
     let before = r.wrapping_mul(r).wrapping_mul(first);
     let between = r.wrapping_mul(2 * u).wrapping_mul(second);
     let behind = u.wrapping_mul(u).wrapping_mul(third);

@@ -1,4 +1,4 @@
-//! Lines of the longest segments, that another program worked out in whole numbers without bounds.
+//! Lines of the longest segments. Another program computed them with integers of any size.
 
 use super::segments::segment_sums;
 use page_samples::{hooked_stairs, round, triangle};
@@ -9,14 +9,14 @@ use std::alloc::Global;
 use std::test::Fail;
 use vertex_adjust::{Line, line_of};
 
-/// A walk as long as the greatest page has room for.
+/// A walk that is as long as the greatest page allows.
 #[derive(Clone, Copy)]
 enum Walk {
-    /// Round a row of pixels.
+    /// Around a row of pixels.
     Bar,
     /// Up stairs, and back along two sides.
     Stairs,
-    /// Up stairs with a step before them and one behind.
+    /// Up stairs, with a step before them and one after them.
     Hooked,
 }
 
@@ -31,10 +31,10 @@ fn points_of(alloc: Global, walk: Walk) -> Result<Vec<Point>, NoMemory> {
 /// The number of points, and the sums of their offsets, of the offsets' squares and of their products.
 type Numbers = (u32, i64, i64, i64, i64, i64);
 
-/// What is found of a segment: its sums, its penalty, and its line's normal and centre.
+/// The results for a segment: its sums, its penalty, and its line's normal and centre.
 type Found = (Numbers, u64, (i64, i64), (i64, i64));
 
-/// A walk, a segment, and what is found of it.
+/// A walk, a segment, and the results for it.
 const LONG: [(Walk, u32, u32, Found); 5] = [
     (
         Walk::Bar,
@@ -65,7 +65,7 @@ const LONG: [(Walk, u32, u32, Found); 5] = [
             (16776959, 16776448),
         ),
     ),
-    // The most steps at which the variances are within 2^58, and one more.
+    // The most steps for which the variances are within 2^58, and one step more.
     (
         Walk::Stairs,
         0,

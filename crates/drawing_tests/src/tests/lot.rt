@@ -1,10 +1,10 @@
-//! Lines and points that look drawn by lot.
+//! Pseudo-random lines and points.
 
 use super::plain::moved;
 use pt_core::Point;
 use vertex_adjust::Line;
 
-/// Numbers that look drawn by lot, the same ones each time (xorshift).
+/// Pseudo-random numbers, the same ones in each run (xorshift).
 #[derive(Drop)]
 pub(super) struct Lot {
     state: u64,
@@ -24,7 +24,7 @@ impl Lot {
         self.state
     }
 
-    /// A number of at most this size.
+    /// A number from `-most` to `most`.
     fn within(&mut self, most: u32) -> i64 {
         let span = 2 * u64::from(most) + 1;
         (self.next() % span) as i64 - i64::from(most)
@@ -35,14 +35,14 @@ impl Lot {
         (self.next() % (u64::from(most) + 1)) as i32
     }
 
-    /// A point whose coordinates are from 0 to `most`.
+    /// A point with coordinates from 0 to `most`.
     pub(super) fn point(&mut self, most: u16) -> Point {
         let x = self.coordinate(most);
         let y = self.coordinate(most);
         Point { x, y }
     }
 
-    /// A line whose normal's numbers are of at most the size `normal`, with a centre within `spread` of `v`.
+    /// A line with numbers of at most `normal` in its normal, and a centre within `spread` of `v`.
     pub(super) fn line(&mut self, v: Point, normal: u32, spread: u32) -> Line {
         let nx = self.within(normal);
         let ny = self.within(normal);

@@ -1,4 +1,4 @@
-//! Numbers with three decimals, whose texts were written down by hand.
+//! Numbers with three decimals. Their texts were written by hand.
 
 use pt_core::put_fixed;
 use std::test::Fail;

@@ -1,9 +1,9 @@
-//! The best place of a vertex as it is defined: all places are tried.
+//! The best place of a vertex by its definition: all places are tried.
 
 use pt_core::Point;
 use vertex_adjust::Line;
 
-/// A shift with what decides between shifts, in this order: of two the less one is the better.
+/// A shift with the values that decide between shifts, in this order. The lesser of two is the better one.
 #[derive(Clone, Copy, Debug, PartialEq, Eq, PartialOrd, Ord)]
 pub(super) struct Tried {
     error: u128,
@@ -24,7 +24,7 @@ pub(super) fn best_of_all(before: &Line, after: &Line, v: Point) -> Tried {
     best
 }
 
-/// The best of the 65 shifts that go so many steps to the right.
+/// The best of the 65 shifts that go `right` steps to the right.
 pub(super) fn best_of_column(before: &Line, after: &Line, v: Point, right: i64) -> Tried {
     let mut best = measured(before, after, v, right, -32);
     for up in -31..33 {
@@ -49,7 +49,7 @@ fn measured(before: &Line, after: &Line, v: Point, right: i64, up: i64) -> Tried
     }
 }
 
-/// A coordinate in units of 1/1024 pixel, so many steps of 1/64 pixel from one in pixels.
+/// A coordinate in units of 1/1024 pixel: `steps` steps of 1/64 pixel from a coordinate in pixels.
 pub(super) fn moved(coordinate: i32, steps: i64) -> i64 {
     let start = i64::from(coordinate).wrapping_mul(1024);
     start.wrapping_add(steps.wrapping_mul(16))

@@ -1,10 +1,10 @@
-//! EPS documents that were written down by hand.
+//! EPS documents that were written by hand.
 
 use super::samples::{CURVE, MIDDLE, NINE, Row, settings, trace_of};
 use eps_backend::eps;
 use std::test::Fail;
 
-/// A square round 64 pixels.
+/// A square around 64 pixels.
 const BOARD: &[Row] = &[
     ((0, 8192), (0, 8192), (0, 4096), 0),
     ((0, 0), (0, 0), (4096, 0), 0),

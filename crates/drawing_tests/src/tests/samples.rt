@@ -6,13 +6,13 @@ use pt_core::{Backend, Group, Piece, Point, Policy, Sequence, Settings, Trace};
 use std::alloc::Global;
 use std::test::Fail;
 
-/// Where a point stands.
+/// The coordinates of a point.
 pub(super) type Place = (i32, i32);
 
-/// A curve's controls, its end and its roundness; of a corner, which has none, its place twice and 0.
+/// A piece: a curve's two control points, its end and its roundness. A corner has its vertex twice, its end, and 0.
 pub(super) type Row = (Place, Place, Place, u32);
 
-/// A square round a pixel at the lower left corner of the page.
+/// A square around a pixel at the lower left corner of the page.
 pub(super) const PIXEL: &[Row] = &[
     ((0, 1024), (0, 1024), (0, 512), 0),
     ((0, 0), (0, 0), (512, 0), 0),
@@ -20,7 +20,7 @@ pub(super) const PIXEL: &[Row] = &[
     ((1024, 1024), (1024, 1024), (512, 1024), 0),
 ];
 
-/// A square round nine pixels there.
+/// A square around nine pixels at the lower left corner of the page.
 pub(super) const NINE: &[Row] = &[
     ((0, 3072), (0, 3072), (0, 1536), 0),
     ((0, 0), (0, 0), (1536, 0), 0),
@@ -28,7 +28,7 @@ pub(super) const NINE: &[Row] = &[
     ((3072, 3072), (3072, 3072), (1536, 3072), 0),
 ];
 
-/// A square round their middle one.
+/// A square around the middle one of these nine pixels.
 pub(super) const MIDDLE: &[Row] = &[
     ((1024, 2048), (1024, 2048), (1024, 1536), 0),
     ((1024, 1024), (1024, 1024), (1536, 1024), 0),
@@ -46,7 +46,7 @@ pub(super) fn at(x: i32, y: i32) -> Point
     Point { x, y }
 }
 
-/// Points at these places, of which none is farther off than the widest page goes.
+/// Points with these coordinates. No point is farther away than the widest page reaches.
 pub(super) fn points_at(alloc: Global, places: &[Place]) -> Result<Vec<Point>, Fail>
     ensures near { IfOk result (λ points. All IsNearWidePage points.items) }
     ensures one_each { IfOk result (λ points. length points.items ≡ length places.now) }
@@ -92,7 +92,7 @@ fn piece(row: Row) -> Piece {
     }
 }
 
-/// A trace of these outlines on a page of these sides, with its shapes and their holes.
+/// A trace with these outlines on a page with these sides, with its shapes and their holes.
 pub(super) fn trace_of(
     alloc: Global,
     sides: (u32, u32),
@@ -131,7 +131,7 @@ fn groups_of(alloc: Global, shapes: &[(u32, &[u32])]) -> Result<Vec<Group>, Fail
     Ok(groups)
 }
 
-/// Ten units a pixel.
+/// Settings with ten units per pixel.
 pub(super) fn settings(flat: bool) -> Settings
     ensures { result.unit ≡ 10 }
 {

@@ -1,4 +1,4 @@
-//! The search for a vertex, beside the plain one.
+//! The search for a vertex, compared with a plain search.
 ghost use Rattle.std.specs.Prelude.{IsTrue, pos, unsigned_abs, ◌≤◌, ◌≤ℤ◌, ◌^◌};
 
 use super::lot::Lot;
@@ -6,8 +6,8 @@ use super::plain::{best_of_all, best_of_column, moved};
 use pt_core::{LONGEST_SIDE, Point};
 use vertex_adjust::{Line, column, vertex};
 
-/// How large the numbers of a normal are, and how far from the point a line's centre may lie: lines that meet
-/// near, lines far away, and flat ones with many ties.
+/// How large the numbers of a normal are, and how far a line's centre may lie from the point. There are lines that meet
+/// near the point, lines far away, and flat ones with many ties.
 const KINDS: [(u32, u32); 5] = [
     (4096, 700),
     (4096, 1024 * LONGEST_SIDE),
@@ -19,10 +19,11 @@ const KINDS: [(u32, u32); 5] = [
 /// The last column and row of a page's corners.
 const LAST: u16 = LONGEST_SIDE as u16;
 
-/// How far right or up the centre of a segment's line may lie, in units of 1/1024 pixel: a side beyond the last corner.
+/// How far right or up the centre of a segment's line may lie, in units of 1/1024 pixel: one page side beyond the last
+/// corner.
 const FARTHEST: u64 = 2048 * LONGEST_SIDE as u64;
 
-/// A point whose coordinates are from 0 to `most`, and two lines near it.
+/// A point with coordinates from 0 to `most`, and two lines near it.
 fn drawn(lot: &mut Lot, round: usize, most: u16) -> (Point, Line, Line) {
     let (normal, spread) = KINDS[round % 5];
     let v = lot.point(most);
@@ -31,7 +32,7 @@ fn drawn(lot: &mut Lot, round: usize, most: u16) -> (Point, Line, Line) {
     (v, first, second)
 }
 
-/// Whether a line's normal is at most 1 long each way, and its centre at most this far off each way.
+/// Whether a line's normal has numbers of at most 1 in size, and its centre is at most this far away along both axes.
 fn is_within(line: &Line, centre: u64) -> bool
     ensures nx { IsTrue result → unsigned_abs line.now.nx ≤ 2 ^ 12 }
     ensures ny { IsTrue result → unsigned_abs line.now.ny ≤ 2 ^ 12 }
@@ -44,7 +45,7 @@ fn is_within(line: &Line, centre: u64) -> bool
         && line.cy.unsigned_abs() <= centre
 }
 
-/// The vertex at a point between two lines, if they may be those of a path on a page.
+/// The vertex at a point between two lines, if they may be lines of a path on a page.
 fn vertex_at(before: &Line, after: &Line, v: Point) -> Option<(i64, i64)> {
     if !is_within(before, FARTHEST) || !is_within(after, FARTHEST) {
         return None;
@@ -56,13 +57,13 @@ fn vertex_at(before: &Line, after: &Line, v: Point) -> Option<(i64, i64)> {
     Some((i64::from(found.x), i64::from(found.y)))
 }
 
-/// The best of all places.
+/// The best of all places, found by trying all.
 fn plain_vertex(before: &Line, after: &Line, v: Point) -> (i64, i64) {
     let best = best_of_all(before, after, v);
     (moved(v.x, best.right), moved(v.y, best.up))
 }
 
-/// The best row of a column of places, if the lines may be those of a path on a far larger page.
+/// The best row of a column of places, if the lines may be lines of a path on a far larger page.
 fn row_at(first: &Line, second: &Line, v: Point, s: i32) -> Option<i64> {
     if !is_within(first, 1 << 27) || !is_within(second, 1 << 27) || s < -32 || 32 < s {
         return None;
@@ -85,13 +86,13 @@ const NOWHERE: Numbers = (0, 0, 3072, 4096);
 
 /// Two lines, and the vertex at the point (3, 4).
 const TIES: [(Numbers, Numbers, (i64, i64)); 8] = [
-    // All places are as near: the point itself.
+    // All places are equally near: the point itself.
     (NOWHERE, NOWHERE, (3072, 4096)),
-    // A slope to the right and down: of two places as near to the point, the lower one.
+    // A slope to the right and down: the lower one of two places that are equally near to the point.
     ((2896, 2896, 3088, 4096), NOWHERE, (3088, 4096)),
     ((2896, 2896, 3024, 4096), NOWHERE, (3056, 4064)),
     ((2896, -2896, 3152, 4096), NOWHERE, (3104, 4048)),
-    // Two columns are as near: the shorter shift.
+    // Two columns are equally near: the shorter shift.
     ((4096, 0, 3080, 4096), NOWHERE, (3072, 4096)),
     // Lines that meet too far away, and at the last candidate.
     ((4096, 0, 3872, 4096), (0, 4096, 3072, 3396), (3584, 3584)),
@@ -116,7 +117,7 @@ fn vertices_are_the_best_of_all_places(rt: HostRuntime) {
     let mut lot = Lot::new();
     for round in 0..500 {
         let (v, before, mut after) = drawn(&mut lot, round, LAST);
-        // Each third pair of lines is parallel.
+        // Every third pair of lines is parallel.
         if round % 3 == 0 {
             after = line((before.nx, before.ny, after.cx, after.cy));
         }

@@ -1,4 +1,4 @@
-//! Segments of polygons, as the calls that are tested take them.
+//! Segments of polygons, as arguments for the calls that are tested.
 ghost use Rattle.std.specs.Prelude.{◌≡◌, ◌+◌, ◌-◌, ◌≤◌, ◌<◌, ◌^◌, IsTrue, length};
 ghost use Rattle.pt_core.specs.OnPage.{AreOnPage};
 ghost use Rattle.vertex_adjust.specs.Line.{AreSums};
@@ -7,7 +7,7 @@ ghost use Rattle.vertex_adjust.specs.Vertex.{IsPolygonAlong, IsSegmentOf, segmen
 use prefix_moments::{Moments, Sums};
 use pt_core::{MOST_STEPS, Point};
 
-/// Whether the indices are those of a polygon of the points.
+/// Whether these are the indices of a polygon of the points.
 pub(super) fn is_polygon(points: &[Point], at: &[u32]) -> bool
     ensures { IsTrue result → IsPolygonAlong points.now at.now }
 {

@@ -1,4 +1,4 @@
-//! SVG documents that were written down by hand.
+//! SVG documents that were written by hand.
 
 use super::samples::{CURVE, MIDDLE, NINE, Row, settings, trace_of};
 use std::test::Fail;
@@ -20,7 +20,7 @@ M15 20 l-5 0 l0 -5 l0 -5 l5 0 l5 0 l0 5 l0 5 l-5 0 z \
 M-1 20 c1 -17 -2 -20 0 0 z\"/>\n\
 </g>\n</svg>\n";
 
-/// Whether all is in one path, and the text.
+/// Whether all outlines are in one path, and the text.
 const DOCUMENTS: [(bool, &str); 2] = [(false, A_PATH_FOR_EACH_SHAPE), (true, ONE_PATH)];
 
 const OUTLINES: &[&[Row]] = &[NINE, MIDDLE, CURVE];

@@ -1,4 +1,4 @@
-//! Lines of segments and vertices of polygons that another program worked out, in whole numbers without bounds.
+//! Lines of segments and vertices of polygons. Another program computed them with integers of any size.
 ghost use Rattle.std.specs.Prelude.{◌≡◌, IfOk};
 
 use super::samples::{Place, points_at};
@@ -59,7 +59,7 @@ const LINES: [(&[Place], u32, u32, (i64, i64), (i64, i64)); 10] = [
     (PIXEL, 0, 1, (4096, 0), (0, 512)),
     (PIXEL, 1, 2, (0, 4096), (512, 0)),
     (PIXEL, 0, 2, (2896, 2896), (341, 341)),
-    // As far one way as the other.
+    // Equally far both ways.
     (PIXEL, 0, 3, (0, 0), (512, 512)),
     // Past the last point.
     (PIXEL, 3, 5, (2896, -2897), (341, 682)),
@@ -137,7 +137,7 @@ const VERTICES: [(&[Place], &[u32], &[Place]); 10] = [
 
 #[test]
 fn vertices_of_polygons(rt: HostRuntime) -> Result<(), Fail> {
-    // What is kept of one polygon must change nothing in the next ones.
+    // What is cached for one polygon must not change the next ones.
     let mut memo = VertexMemo::new(rt.alloc())?;
     for (path, at, vertices) in VERTICES {
         let same = has_vertices(rt.alloc(), path, at, vertices, &mut memo)?;

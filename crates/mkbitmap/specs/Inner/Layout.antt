@@ -1,5 +1,5 @@
--- How a filter is laid out: a ring of slots for the rows that it holds, and the sums of their columns.
--- These serve inner contracts alone: no promise rests on them.
+-- The memory of a filter: a ring of slots for the rows that it holds, and the sums of their columns. These definitions
+-- serve inner contracts only; no promise rests on them.
 use Rattle.std.specs.Prelude.{◌≡◌, ℕ, ◌+◌, ◌-◌, ◌*◌, ◌/◌, ◌%◌, ◌<◌, ◌≤◌, min, List, [], length, get_or, map}
 use Rattle.std.specs.List.{range_with_len}
 use Rattle.pt_core.specs.declared.limits.TheConstants.{LONGEST_SIDE}
@@ -10,15 +10,15 @@ use Rattle.mkbitmap.specs.Follows.{Follows}
 use Rattle.mkbitmap.specs.declared.limits.TheConstants.{GREATEST_MAXVAL, GREATEST_RADIUS, GREATEST_RELIEF, GREATEST_TIMES}
 use Rattle.mkbitmap.specs.declared.filter.Filter.TheInside.{Inside}
 
--- the first row that is held: those whose reliefs were made reach no farther up
+-- the first row that is held; the boxes of the next reliefs don't reach further up
 abbrev pub first_held : Inside → ℕ
 first_held f = min f.pairs f.height - f.radius
 
--- what stands in the slot of row j
+-- the contents of the slot of row j
 abbrev pub held_row : Inside → ℕ → List ℕ
 held_row f j = get_or f.ring.items (j % (2 * f.radius + 1)) []
 
--- the filter that is laid out so
+-- the filter that has this memory
 abbrev pub filtering_of : Inside → Filtering
 filtering_of f = record {
   width = f.width;
@@ -35,7 +35,7 @@ filtering_of f = record {
   packed = f.packed.items;
 }
 
--- the sides, the boxes and how many times larger the page is made are in range, and this is the limit of dark mixtures
+-- the sides, the radius and the number of times are in range, and this is the limit of dark mixtures
 pub record IsSetUp (width height maxval radius times level limit : ℕ) : Type 0 where
   pub some_columns : 1 ≤ width
   pub some_rows : 1 ≤ height
@@ -47,7 +47,7 @@ pub record IsSetUp (width height maxval radius times level limit : ℕ) : Type 0
   pub most_rows : times * height ≤ LONGEST_SIDE
   pub dark : limit ≡ dark_limit maxval times level
 
--- the sizes of what is held
+-- the sizes of the lists
 pub record HasRoom (f : Inside) : Type 0 where
   pub setup : IsSetUp f.width f.height f.maxval f.radius f.times f.level f.limit
   pub slots : length f.ring.items ≡ 2 * f.radius + 1
@@ -62,8 +62,8 @@ pub record HasRoom (f : Inside) : Type 0 where
   pub low : first_held f ≤ f.taken
   pub room : f.taken ≤ first_held f + (2 * f.radius + 1)
 
--- no sample of a row that is held is brighter than white, the columns' sums are those of these rows, and no relief is too
--- great
+-- no sample that is held is brighter than white, the columns' sums are those of the rows that are held, and no relief
+-- is too great
 pub record IsLaidOut (f : Inside) : Type 0 where
   pub room : HasRoom f
   pub bright : (j : ℕ) → first_held f ≤ j → j < f.taken → (x : ℕ) → get_or (held_row f j) x 0 ≤ f.maxval
@@ -71,10 +71,10 @@ pub record IsLaidOut (f : Inside) : Type 0 where
   pub upper : (x : ℕ) → get_or f.upper.items x 0 ≤ GREATEST_RELIEF
   pub lower : (x : ℕ) → get_or f.lower.items x 0 ≤ GREATEST_RELIEF
 
--- the reliefs of a row are still to be made, and the rows that they ask for were taken
+-- the reliefs of another row can be computed, since the rows that they need were taken
 abbrev pub IsRowDue : Filtering → Type 0
 IsRowDue f = (f.pairs < f.height) × (f.taken ≡ min f.height (f.pairs + f.radius + 1))
 
--- it follows each page that it followed before, and has made the reliefs of one row more
+-- the filter follows each page that it followed before, and has the reliefs of one more row
 abbrev pub StepsOn : Filtering → Filtering → Type 0
 StepsOn old new = ((page : Gray) → Follows page old → Follows page new) × HasGone 0 1 old new

@@ -1,4 +1,4 @@
--- What a page at work holds and has done, between rows of the result.
+-- What a page in progress holds and has done, between two rows of the result.
 use Rattle.std.specs.Prelude.{◌≡◌, ℕ, ◌+◌, ◌*◌, ◌<◌, ◌≤◌, true, false, List, [], ◌++◌, length, min, Option, Result, Ok, Err}
 use Rattle.pt_core.specs.Files.{Files}
 use Rattle.pt_core.specs.declared.limits.TheConstants.{LONGEST_SIDE}
@@ -25,29 +25,28 @@ use Rattle.mkbitmap_run.specs.declared.work.Work.{Work}
 abbrev pub header_of : GraySource → PageHeader
 header_of reader = record { plain = reader.plain; width = reader.head.width; height = reader.head.height; maxval = reader.head.maxval }
 
--- how a filter is set up
+-- the setup of a filter
 abbrev pub setup_of : Filtering → Setup
 setup_of f = record { radius = f.radius; times = f.times; level = f.level }
 
--- rows of an opened file may be read: where a read has given nothing, no byte is left, and no more bytes are held than
--- a reader has room for
+-- rows of the open file may be read: if the reader has found the end of the file, no byte is left, and the reader holds
+-- at most 65,536 bytes
 pub record MayRead (reader : GraySource) (source : Source) : Type 0 where
   pub opened : source.is_opened ≡ true
   pub at_end : reader.ended ≡ true → AtEnd source.files
   pub within : length reader.bytes ≤ 65536
 
--- rows may still be read of the file, and none was opened anew
+-- rows may still be read of the file, and no other file was opened
 pub record StaysOpened (reader : GraySource) (before now : Source) : Type 0 where
   pub reading : MayRead reader now
   pub openings : now.openings ≡ before.openings
 
--- how reads ended, by the inputs' count of faults: it rose where one failed, and else it is the same
+-- how reads ended, by the inputs' count of faults: it rose if a read failed, and else it is unchanged
 abbrev pub ReadsEnd : {X : Type 0} → Result X InFault → ℕ → ℕ → Type 0
 ReadsEnd (Ok x) before now = now ≡ before
 ReadsEnd (Err fault) before now = CountsBy (cause_of_fault fault) before now
 
--- a reader gave these rows: bytes were taken, and the rows stand at the front of those at hand and these, whatever
--- comes behind them
+-- a reader gave these rows: further bytes were read, and its bytes begin with these rows, whatever comes after them
 pub record GivesRows (old : GraySource) (before : Option Files) (rows : List (List ℕ)) (new : GraySource) (now : Option Files) : Type 0 where
   pub more : List ℕ
   pub moves : Moves old.ended before new.ended now more
@@ -57,7 +56,7 @@ pub record GivesRows (old : GraySource) (before : Option Files) (rows : List (Li
   pub same_kind : new.plain ≡ old.plain
   pub given : new.given ≡ old.given + length rows
 
--- the reader, the filter and the room for a row are those of one page
+-- the reader, the filter and the buffer for a row are for the same page
 pub record FitsWork (work : Work) : Type 0 where
   pub width : work.filter.width ≡ work.reader.head.width
   pub height : work.filter.height ≡ work.reader.head.height
@@ -67,7 +66,7 @@ pub record FitsWork (work : Work) : Type 0 where
   pub some_times : 1 ≤ work.filter.times
   pub room : length work.row.items ≡ work.reader.head.width
 
--- the reader and the filter have gone along these rows of the page, and the filter took no more than its boxes need
+-- the reader and the filter have gone through these rows of the page, and the filter took only rows that its boxes need
 pub record IsAtWork (work : Work) (rows : List (List ℕ)) : Type 0 where
   pub fits : FitsWork work
   pub taken : work.filter.taken ≡ length rows
@@ -77,24 +76,24 @@ pub record IsAtWork (work : Work) (rows : List (List ℕ)) : Type 0 where
   pub enough : 1 ≤ work.filter.pairs → min work.filter.height (work.filter.pairs + work.filter.radius) ≤ work.filter.taken
   pub follows : (page : Gray) → HasFirstRows (header_of work.reader) rows page → Follows page work.filter
 
--- they are before the first row, and the document's head is made
+-- the reader and the filter are before the first row, and the document's beginning is prepared
 pub record IsBeforeRows (work : Work) : Type 0 where
   pub at_work : IsAtWork work []
   pub none : work.filter.pairs ≡ 0
   pub head : work.head.items ≡ result_head (setup_of work.filter) (header_of work.reader)
 
--- the page can be put, from its first row on
+-- writing the page can begin, with its first row
 pub record CanBegin (work : Work) (source : Source) : Type 0 where
   pub reading : MayRead work.reader source
   pub start : IsBeforeRows work
 
--- with the same setup they went along these rows more
+-- the reader and the filter went through these further rows, with the same setup
 pub record GoesAlong (old : Work) (before : Option Files) (next : List (List ℕ)) (new : Work) (now : Option Files) : Type 0 where
   pub gives : GivesRows old.reader before next new.reader now
   pub setup : setup_of new.filter ≡ setup_of old.filter
   pub along : (rows : List (List ℕ)) → IsAtWork old rows → IsAtWork new (rows ++ next)
 
--- row Y of the result can be put: no more rows were gone along than it needs
+-- row Y of the result can be written: only rows that it needs were read before
 pub record CanPut (Y : ℕ) (work : Work) (source : Source) : Type 0 where
   pub reading : MayRead work.reader source
   pub rows : List (List ℕ)
@@ -103,14 +102,15 @@ pub record CanPut (Y : ℕ) (work : Work) (source : Source) : Type 0 where
   pub behind : work.filter.pairs ≤ after_of work.filter.times Y + 1
   pub ahead : work.reader.given ≤ need_of (setup_of work.filter) (header_of work.reader) Y
 
--- they went along just the rows that row Y of the result needs, and the filter to the reliefs that it lies between
+-- exactly the rows that row Y of the result needs were read, and the filter has the two rows of reliefs between which
+-- row Y lies
 pub record GetsReady (Y : ℕ) (old : Work) (before : Option Files) (new : Work) (now : Option Files) : Type 0 where
   pub next : List (List ℕ)
   pub along : GoesAlong old before next new now
   pub pairs : new.filter.pairs ≡ after_of old.filter.times Y + 1
   pub read : new.reader.given ≡ need_of (setup_of old.filter) (header_of old.reader) Y
 
--- a head as the reader gives it
+-- a header as the reader returns it
 pub record IsGrayHead (head : GrayHead) : Type 0 where
   pub some_columns : 1 ≤ head.width
   pub most_columns : head.width ≤ LONGEST_SIDE
@@ -119,20 +119,20 @@ pub record IsGrayHead (head : GrayHead) : Type 0 where
   pub some_white : 1 ≤ head.maxval
   pub most_white : head.maxval ≤ 65535
 
--- a reader has read this head, and no row
+-- a reader has read this header, and no row
 pub record HasReadHead (head : GrayHead) (reader : GraySource) : Type 0 where
   pub in_range : IsGrayHead head
   pub is : reader.head ≡ head
   pub none_given : reader.given ≡ 0
   pub going_on : reader.failed ≡ false
 
--- the page that this reader has begun is at work with this setup, before its first row
+-- the page of this reader is in progress with this setup, before its first row
 pub record BeginsWork (setup : Setup) (reader : GraySource) (work : Work) : Type 0 where
   pub same_reader : work.reader ≡ reader
   pub same_setup : setup_of work.filter ≡ setup
   pub start : IsBeforeRows work
 
--- the next row isn't there, by this cause
+-- the next row couldn't be read, for this cause
 abbrev pub StopsRow : Cause → GraySource → Option Files → GraySource → Option Files → Type 0
 StopsRow (Says (Refused kind)) old before new now = Refuses (cut_row (header_of old)) kind old before new now
 StopsRow (Says End) old before new now = ⊥
@@ -140,8 +140,7 @@ StopsRow (Says Trailing) old before new now = ⊥
 StopsRow Device old before new now = FailsToRead (cut_row (header_of old)) old before new now
 StopsRow Memory old before new now = ⊥
 
--- behind some rows, no more than this one, the next one isn't there; and no more bytes are held there than a reader has
--- room for
+-- after some rows, at most `last`, the next one couldn't be read; the reader holds at most 65,536 bytes there
 pub record StopsBehind (why : Cause) (last : ℕ) (old : GraySource) (before : Option Files) (new : GraySource) (now : Option Files) : Type 0 where
   pub rows : List (List ℕ)
   pub mid : GraySource
@@ -152,7 +151,7 @@ pub record StopsBehind (why : Cause) (last : ℕ) (old : GraySource) (before : O
   pub early : mid.given ≤ last
   pub within : length mid.bytes ≤ 65536
 
--- behind some rows, no more than row Y of the result needs, the next one isn't there
+-- after some rows, at most the ones that row Y of the result needs, the next one couldn't be read
 abbrev pub StopsBefore : Cause → ℕ → Work → Option Files → GraySource → Option Files → Type 0
 StopsBefore why Y old before new now =
     StopsBehind why (need old.reader.head.height old.filter.radius old.filter.times Y) old.reader before new now

@@ -1,4 +1,4 @@
--- What is known where the header of the page was read.
+-- What is known after the header of the page was read.
 use Rattle.std.specs.Prelude.{◌≡◌, ℕ, Bool, true, List, [], ◌++◌, Option}
 use Rattle.pt_core.specs.Counts.{next_count}
 use Rattle.bitmap_input.specs.Cut.Cut.{Takes}
@@ -14,7 +14,7 @@ use Rattle.run_output.specs.Told.{Source}
 use Rattle.small_program.specs.Input.{HasTaken}
 use Rattle.mkbitmap_run.specs.Inner.FilterWork.{header_of}
 
--- the header isn't there, by this cause
+-- the header couldn't be read, for this cause
 abbrev pub StopsHead : Cause → GraySource → Option Files → Option Files → Type 0
 StopsHead (Says (Refused kind)) new before now = Refuses gray_header kind gray_at_start before new now
 StopsHead (Says End) new before now = ⊥
@@ -22,8 +22,8 @@ StopsHead (Says Trailing) new before now = ⊥
 StopsHead Device new before now = FailsToRead gray_header gray_at_start before new now
 StopsHead Memory new before now = ⊥
 
--- standard input was opened once, no read failed, and at the front of what was taken of it stands the header that the
--- reader has, whatever comes behind; and no more was taken than the header needs, but for a last block
+-- standard input was opened once and no read failed; the bytes that were read begin with the reader's header, whatever
+-- comes after them; and only the header and at most one block more were read
 pub record StandsBehindHead (source : Source) (reader : GraySource) (source_now : Source) : Type 0 where
   pub opened : source_now.openings ≡ next_count source.openings
   pub steady : source_now.faults ≡ source.faults

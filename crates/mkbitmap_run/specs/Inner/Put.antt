@@ -1,4 +1,4 @@
--- What of the document a page at work wrote, row by row, how the calls ended, and why it broke off.
+-- Which part of the document was written, row by row, how the calls ended, and why writing stopped early.
 use Rattle.std.specs.Prelude.{◌≡◌, ℕ, ◌*◌, ◌<◌, ◌≤◌, Bool, true, false, List, ◌++◌, length, take, Option, Result, Ok, Err}
 use Rattle.pt_core.specs.Documents.{Documents, with_bytes, with_open, with_whole}
 use Rattle.pt_core.specs.declared.inputs.Inputs.{Ghosts as InputGhosts}
@@ -22,40 +22,40 @@ pub record World : Type 0 where
   pub source : Source
   pub outs : Told
 
--- what inputs and outputs tell
+-- what these inputs and outputs show
 abbrev pub world_of : {A B : Type 0} → InputGhosts A → SinkGhosts B → A → B → World
 world_of of_inputs of_outs inputs outs = record { source = source_of of_inputs inputs; outs = told_of of_outs outs }
 
--- how the calls of a step ended: none failed, but for the one that broke it off, which was the last
+-- how the calls of a step ended: only the call at which the step stopped failed, and it was the last one
 abbrev pub StepEnds : {X : Type 0} → Result X Break → World → World → Type 0
 StepEnds (Ok x) before now = (now.source.faults ≡ before.source.faults) × AllWent before.outs now.outs
 StepEnds (Err (breaks.Input fault)) before now =
     CountsBy (cause_of_fault fault) before.source.faults now.source.faults × AllWent before.outs now.outs
 StepEnds (Err breaks.Output) before now = (now.source.faults ≡ before.source.faults) × BrokeOff before.outs now.outs
 
--- where a document is whole, none is open; where a row of the page isn't there, it stays open
+-- no document is open after a whole one; the document stays open if a row of the page couldn't be read
 abbrev pub LeavesSo : {X : Type 0} → Result X Break → Bool → Type 0
 LeavesSo (Ok x) is_open = is_open ≡ false
 LeavesSo (Err (breaks.Input fault)) is_open = is_open ≡ true
 LeavesSo (Err breaks.Output) is_open = Unit {0}
 
--- the open document has all rows above row Y more, whatever page begins with these rows
+-- for every page that begins with these rows, all rows above row Y were appended to the open document
 abbrev pub PutsRows : Setup → PageHeader → List (List ℕ) → ℕ → Option Documents → Option Documents → Type 0
 PutsRows setup header rows Y old new =
     (page : Gray) → HasFirstRows header rows page → new ≡ with_bytes old (rows_above setup page Y)
 
--- this holds of row Y of the result, whatever page begins with the rows so far and the next ones
+-- P holds for row Y of the result, for every page that begins with the rows before and the next ones
 abbrev pub IsSoOfRow : ℕ → Work → List (List ℕ) → (List ℕ → Type 0) → Type 0
 IsSoOfRow Y old next P =
     (rows : List (List ℕ)) → IsAtWork old rows → (page : Gray) → HasFirstRows (header_of old.reader) (rows ++ next) page
     → P (result_row (setup_of old.filter) page Y)
 
--- row Y of the result was put
+-- row Y of the result was written
 pub record PutsRow (Y : ℕ) (old : Work) (before : World) (new : Work) (now : World) : Type 0 where
   pub ready : GetsReady Y old before.source.files new now.source.files
   pub put : IsSoOfRow Y old ready.next (λ row. now.outs.documents ≡ with_bytes before.outs.documents row)
 
--- all rows were put
+-- all rows were written
 pub record PutsAll (old : Work) (before : World) (new : Work) (now : World) : Type 0 where
   pub rows : List (List ℕ)
   pub gives : GivesRows old.reader before.source.files rows new.reader now.source.files
@@ -63,14 +63,14 @@ pub record PutsAll (old : Work) (before : World) (new : Work) (now : World) : Ty
   pub puts : PutsRows (setup_of old.filter) (header_of old.reader) rows (old.filter.times * old.reader.head.height)
       before.outs.documents now.outs.documents
 
--- the document was put whole
+-- the document was written whole
 pub record PutsPage (old : Work) (before : World) (new : Work) (now : World) : Type 0 where
   pub rows : List (List ℕ)
   pub gives : GivesRows old.reader before.source.files rows new.reader now.source.files
   pub all : length rows ≡ old.reader.head.height
   pub documents : now.outs.documents ≡ with_whole before.outs.documents dash (result_text (setup_of old.filter) (header_of old.reader) rows)
 
--- putting row Y broke off, before its first byte or within it
+-- writing row Y stopped early, before its first byte or within it
 abbrev pub BreaksRow : Break → ℕ → Work → World → Work → World → Type 0
 BreaksRow (breaks.Input fault) Y old before new now =
     StopsBefore (cause_of_fault fault) Y old before.source.files new.reader now.source.files × (now.outs ≡ before.outs)
@@ -80,7 +80,7 @@ BreaksRow breaks.Output Y old before new now =
     × IsSoOfRow Y old next (λ row. (n : ℕ) × (n ≤ length row)
     × (now.outs.documents ≡ with_bytes before.outs.documents (take n row)))
 
--- putting rows of the result broke off, before or within row Y
+-- writing rows of the result stopped early, before row Y or within it
 abbrev pub BreaksRows : Break → Work → World → Work → World → Type 0
 BreaksRows (breaks.Input fault) old before new now =
     (Y : ℕ) × (Y < old.filter.times * old.reader.head.height)
@@ -93,7 +93,7 @@ BreaksRows breaks.Output old before new now =
     × (length rows ≡ need_of (setup_of old.filter) (header_of old.reader) Y)
     × PutsFront (setup_of old.filter) (header_of old.reader) rows Y before.outs.documents now.outs.documents
 
--- putting the document broke off
+-- writing the document stopped early
 abbrev pub BreaksPage : Break → Work → World → Work → World → Type 0
 BreaksPage (breaks.Input fault) old before new now =
     (last : ℕ) × (stop : StopsBehind (cause_of_fault fault) last old.reader before.source.files new.reader now.source.files)

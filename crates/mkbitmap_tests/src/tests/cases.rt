@@ -1,4 +1,4 @@
-//! Runs of `mkbitmap` over standard input in memory, and what is to come of them.
+//! Runs of `mkbitmap` over standard input in memory, with their expected results.
 use mem_outside::{InCall, MemInputs, MemOutputs, MemSink, OutCall};
 use mkbitmap_run::mk_run;
 use page_samples::{first_of, listed, named, split};
@@ -7,34 +7,34 @@ use std::alloc::Global;
 use std::process::Abort;
 use std::test::Fail;
 
-/// What a run is made of, and what is to come of it.
+/// A run and its expected results.
 #[derive(Clone, Copy)]
 pub struct Case<'a> {
-    /// The words, with a space between them.
+    /// The command-line arguments, with a space between them.
     pub words: &'a str,
-    /// The name of the one file, and its bytes.
+    /// The name of the only file, and its bytes.
     pub name: &'a str,
     pub input: &'a [u8],
-    /// How many bytes a read and a write take.
+    /// The most bytes of one read or write.
     pub most: u32,
-    /// The calls that fail; those of a message are counted from 1.
+    /// The calls that fail. Calls of a message are counted from 1.
     pub unread: Option<InCall>,
     pub unwritten: Option<OutCall>,
     pub unsaid: Option<u64>,
-    /// How the run is to end.
+    /// The expected exit status.
     pub status: u8,
-    /// The document that is to be there, and whether it is whole.
+    /// The expected document, and whether it is whole.
     pub document: Option<(&'a [u8], bool)>,
-    /// The message.
+    /// The expected message.
     pub said: &'a str,
 }
 
-/// Two pixels, and their page twice as large.
+/// A page of two pixels, and the result at twice the size.
 pub const TWO: &[u8] = b"P2 2 1 1 0 1\n";
 
 pub const TWO_TWICE: &[u8] = b"P4\n4 2\n\xc0\xc0";
 
-/// A run over that page where no call fails and no document is to come.
+/// A run over that page in which no call fails and no document is expected.
 pub const PLAIN: Case<'static> = Case {
     words: "--box 0 --level 0.5",
     name: "-",
@@ -49,7 +49,7 @@ pub const PLAIN: Case<'static> = Case {
 };
 
 impl<'a> Case<'a> {
-    /// Runs, and looks at all that came of it.
+    /// Makes the run and checks all results.
     pub fn check(&self, rt: &impl Abort, alloc: Global) -> Result<(), Fail> {
         let words = split(alloc, self.words)?;
         let mut inputs = self.inputs(alloc)?;
@@ -73,7 +73,7 @@ impl<'a> Case<'a> {
     }
 }
 
-/// Runs each case.
+/// Checks each case.
 pub fn check_all(rt: &impl Abort, alloc: Global, cases: &[Case]) -> Result<(), Fail> {
     for case in cases {
         case.check(rt, alloc)?;

@@ -1,4 +1,4 @@
-//! Devices that fail: nothing more is written after.
+//! Devices that fail. Nothing more is written after a failure.
 
 use crate::tests::cases::{Case, PLAIN, TWO_TWICE, check_all};
 use mem_outside::{InCall, OutCall};
@@ -7,7 +7,7 @@ use std::test::Fail;
 /// Reads and writes of three bytes.
 const SHORT: Case<'static> = Case { most: 3, ..PLAIN };
 
-/// A page of three rows that is read byte by byte: its header has 11 bytes.
+/// A page of three rows that is read byte by byte. Its header has 11 bytes.
 const BYTES: Case<'static> = Case {
     words: "--box 0 --times 1 --level 0.5",
     input: b"P5 1 3 255\n\x00\xff\x00",
@@ -24,7 +24,7 @@ const RUNS: &[Case] = &[
         document: Some((b"P4\n1 3\n\x80\x00\x80", true)),
         ..BYTES
     },
-    // Standard input isn't there, or can't be opened.
+    // Standard input is missing, or can't be opened.
     Case {
         name: "a.pgm",
         status: 3,
@@ -37,7 +37,7 @@ const RUNS: &[Case] = &[
         said: "mkbitmap: -: cannot be opened\n",
         ..PLAIN
     },
-    // A read fails in the header, in the first row, and in the last one.
+    // A read fails in the header, in the first row, and in the last row.
     Case {
         unread: Some(InCall::Read(11)),
         status: 3,
@@ -58,13 +58,13 @@ const RUNS: &[Case] = &[
         said: "mkbitmap: -: page 1: read fault\n",
         ..BYTES
     },
-    // Behind a raw page nothing is read.
+    // Nothing is read after a raw page.
     Case {
         unread: Some(InCall::Read(15)),
         document: Some((b"P4\n1 3\n\x80\x00\x80", true)),
         ..BYTES
     },
-    // The last number of a plain page may go on: the read that would tell fails.
+    // The last number of a plain page could continue, and the read that would find out fails.
     Case {
         words: "--box 0 --times 1 --level 0.5",
         input: b"P2 1 2 9 0 9",
@@ -102,7 +102,7 @@ const RUNS: &[Case] = &[
         said: "mkbitmap: -: write fault\n",
         ..PLAIN
     },
-    // It comes before a refusal of the rows behind it, which aren't read then.
+    // The fault comes before the refusal of later rows, which aren't read then.
     Case {
         input: b"P5 1 3 255\n\x00\xff",
         unwritten: Some(OutCall::Write(8)),
@@ -119,7 +119,7 @@ const RUNS: &[Case] = &[
         said: "mkbitmap: -: write fault\n",
         ..SHORT
     },
-    // A failing message changes no status, and its rest is given up.
+    // A failing message doesn't change the status, and the rest of it is dropped.
     Case {
         input: b"P1",
         unsaid: Some(2),

@@ -3,7 +3,7 @@
 use crate::tests::cases::{Case, PLAIN, TWO, check_all};
 use std::test::Fail;
 
-/// Light that grows from the left to the right, and a thin dark line across.
+/// Brightness that grows from left to right, and a thin dark line across the page.
 const UNEVEN: &[u8] = b"P2 9 5 255\n\
 40 60 80 100 120 140 160 180 200 40 60 80 100 120 140 160 180 200\n\
 10 30 50 70 90 110 130 150 170 40 60 80 100 120 140 160 180 200\n\
@@ -14,12 +14,12 @@ const ONE_DARK: &[u8] = b"P2 65 1 1 \
 1 1 1 1 1 1 1 1 1 1 1 1 1 1 1 1 1 1 1 1 1 1 1 1 1 1 1 1 1 1 1 1 \
 1 1 1 1 1 1 1 1 1 1 1 1 1 1 1 1 1 1 1 1 1 1 1 1 1 1 1 1 1 1 1 1 0\n";
 
-/// Words, pages, and what is to come of them. The results are those of a short program in another language that follows
-/// the definition.
+/// Arguments, pages, and the expected results. A short program in another language computed the results by the
+/// definition.
 const FILTERED: &[(&str, &[u8], &[u8])] = &[
     ("--box 0 --times 2 --level 0.5", TWO, b"P4\n4 2\n\xc0\xc0"),
     ("--box 1 --times 1 --level 0.5", TWO, b"P4\n2 1\n\x80"),
-    // At one level the line isn't told from the dark side; a box tells it.
+    // With one level for the whole page the line can't be told apart from the dark side; with a box it can.
     (
         "--box 0 --times 1",
         UNEVEN,
@@ -36,25 +36,25 @@ const FILTERED: &[(&str, &[u8], &[u8])] = &[
         b"P4\n18 10\n\xf8\x00\x00\xf8\x00\x00\xf8\x00\x00\xfe\x00\x00\xff\xc0\x00\
 \xff\xc0\x00\xfe\x00\x00\xf8\x00\x00\xf8\x00\x00\xf8\x00\x00",
     ),
-    // The greatest box: the first pixel is bright beside the dark one, which is 64 pixels away.
+    // The greatest box: the first pixel is bright compared with the dark one, which is 64 pixels away.
     (
         "--box 64 --times 1 --level 0.5",
         ONE_DARK,
         b"P4\n65 1\n\x00\x00\x00\x00\x00\x00\x00\x00\x80",
     ),
-    // The most pixels for one.
+    // The greatest number of pixels of the result for one pixel.
     (
         "--box 0 --times 8",
         b"P5 1 1 1\n\x00",
         b"P4\n8 8\n\xff\xff\xff\xff\xff\xff\xff\xff",
     ),
-    // Two bytes a sample, three pixels for one.
+    // Two bytes per sample, and three pixels of the result for one pixel.
     (
         "--box 1 --times 3",
         b"P5 3 2 1000\n\x00\x00\x03\xe8\x01\xf4\x03\xe7\x00\x00\x03\xe8",
         b"P4\n9 6\n\xe1\x80\xe1\x80\xe0\x00\x1c\x00\x1c\x00\x1c\x00",
     ),
-    // One pixel, and the greatest samples: those above white are white.
+    // One pixel, and the greatest samples. Samples above white are white.
     ("--box 4 --times 1", b"P2 1 1 1 0", b"P4\n1 1\n\x00"),
     ("--box 0 --times 1", b"P5 1 1 1\n\x00", b"P4\n1 1\n\x80"),
     (
@@ -89,7 +89,7 @@ fn filtered(rt: HostRuntime) -> Result<(), Fail> {
     Ok(())
 }
 
-/// A page of three rows, of which a row of the result needs its own and the next one.
+/// A page of three rows. A row of the result needs the same row of the page and the next one.
 const THREE: Case<'static> = Case {
     words: "--box 0 --times 1 --level 0.5",
     status: 2,
@@ -128,7 +128,7 @@ const REFUSED: &[Case] = &[
         said: "mkbitmap: -: page 1: truncated\n",
         ..THREE
     },
-    // So is a result that is too large.
+    // The result is too large: there is no document.
     Case {
         words: "--times 8",
         input: b"P5 4096 1 255\n",

@@ -1,9 +1,9 @@
-//! Words that are refused, and the call for help.
+//! Arguments that are refused, and the request for help.
 
 use crate::tests::cases::{Case, PLAIN, TWO_TWICE};
 use std::test::Fail;
 
-/// Words that aren't the program's.
+/// Arguments that the program doesn't accept.
 const REFUSED: &[&str] = &[
     "--box 65",
     "--box -1",
@@ -22,7 +22,7 @@ const REFUSED: &[&str] = &[
     "-",
 ];
 
-/// Words that are taken: all of them say the same.
+/// Arguments that are accepted and all mean the same.
 const TAKEN: &[&str] = &[
     "--box 0 --level .5",
     "--box 000 --times 02 --level 00.500",

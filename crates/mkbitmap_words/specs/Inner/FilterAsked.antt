@@ -1,9 +1,9 @@
--- Setups that a page can be filtered with.
+-- Setups with which a page can be filtered.
 use Rattle.std.specs.Prelude.{◌≤◌}
 use Rattle.mkbitmap_words.specs.declared.setup.Setup.{Setup}
 use Rattle.mkbitmap.specs.declared.limits.TheConstants.{GREATEST_LEVEL, GREATEST_RADIUS, GREATEST_TIMES}
 
--- a setup that a page can be filtered with
+-- a page can be filtered with this setup
 pub record CanFilter (setup : Setup) : Type 0 where
   pub most_radius : setup.radius ≤ GREATEST_RADIUS
   pub some_times : 1 ≤ setup.times

@@ -1,4 +1,4 @@
--- A text has one reply.
+-- A text has only one reply.
 use Rattle.std.proofs.Common.{◌≡◌, ℕ, List, refl, ap, sym, ◌∙◌, subst, codes}
 use Rattle.outline_check.specs.declared.verdict.Verdict.TheVariants.{Right, Wrong, BadProofs}
 use Rattle.outline_check.proofs.OneVerdict.{one_verdict}
@@ -6,7 +6,7 @@ use Rattle.run_output.specs.declared.status.Status.{Status}
 use Rattle.run_output.specs.declared.status.Status.TheVariants as status
 use Rattle.outline_check_run.specs.Verdict.{IsCheckReply, verdict_line}
 
--- no two endings belong to a text
+-- a text has only one ending
 pub one_ending : (bytes a b : List ℕ) (this that : Status) → IsCheckReply bytes this a → IsCheckReply bytes that b → this ≡ that
 one_ending bytes a b status.Done status.Done x y = refl
 one_ending bytes a b status.Done status.Wrong x y = absurd (let e : Right x.0 ≡ Wrong y.0 = one_verdict bytes (Right x.0) (Wrong y.0) x.1 y.1 in cc)
@@ -26,7 +26,7 @@ one_ending bytes a b this status.Unread x y = absurd y
 one_ending bytes a b this status.Unwritten x y = absurd y
 one_ending bytes a b this status.OutOfMemory x y = absurd y
 
--- of one ending there is one line
+-- an ending has only one line
 one_of_ending : (bytes a b : List ℕ) (this : Status) → IsCheckReply bytes this a → IsCheckReply bytes this b → a ≡ b
 one_of_ending bytes a b status.Done x y =
     let e : Right x.0 ≡ Right y.0 = one_verdict bytes (Right x.0) (Right y.0) x.1 y.1 in
@@ -42,7 +42,7 @@ one_of_ending bytes a b status.Unread x y = absurd x
 one_of_ending bytes a b status.Unwritten x y = absurd x
 one_of_ending bytes a b status.OutOfMemory x y = absurd x
 
--- no two lines belong to a text
+-- a text has only one line
 pub one_line : (bytes a b : List ℕ) (this that : Status) → IsCheckReply bytes this a → IsCheckReply bytes that b → a ≡ b
 one_line bytes a b this that x y =
     one_of_ending bytes a b that (subst (λ (e : Status). IsCheckReply bytes e a) (one_ending bytes a b this that x y) x) y

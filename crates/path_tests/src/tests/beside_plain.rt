@@ -1,4 +1,4 @@
-//! Reaches, corners and best polygons of the paths of pages, beside those of plain programs.
+//! Reaches, corners and best polygons of the paths of pages, compared with those of plain programs.
 
 use crate::tests::plain_best::plain_polygon;
 use crate::tests::samples::{Pages, page_of};
@@ -12,11 +12,11 @@ use std::alloc::Global;
 use std::test::Fail;
 use straight_paths::Reach;
 
-/// How many paths pages have; of how many all reaches and corners are those of a program that walks along every point;
-/// and of how many the polygon is that of the plain program.
+/// How many paths the pages have, for how many of them all reaches and corners agree with a program that walks along
+/// every point, and for how many the polygon agrees with the plain program.
 type Counts = (u32, u32, u32);
 
-/// Counts the paths of a page, too.
+/// Adds the paths of a page to the counts.
 fn count(alloc: Global, page: &Bitmap, policy: Policy, so_far: Counts) -> Result<Counts, Fail> {
     let (mut paths, mut reaches, mut polygons) = so_far;
     for path in &decompose(alloc, page, policy)? {
@@ -57,7 +57,7 @@ fn has_plain_polygon(alloc: Global, points: &[Point]) -> Result<bool, Fail> {
     Ok(best.at.as_slice() == at.as_slice() && best.cost == u128::from(cost))
 }
 
-/// Pages, how many there are, the turn policies, and how many paths there are at least and at most.
+/// Pages, how many there are, the turn policies, and the least and the greatest number of paths.
 const PAGES: &[(Pages, u32, &[Policy], u32, u32)] = &[
     (
         Pages::Small,

@@ -1,12 +1,12 @@
-//! The best polygon among all lists of vertices, by the criteria word for word, in whole numbers: of those through a
-//! path's first point, and of all.
+//! The best polygon among all lists of vertices, by the definition, in whole numbers: among the polygons through a
+//! path's first point, and among all polygons.
 ghost use Rattle.std.specs.Prelude.{◌≤◌, ◌<◌, length};
 
 use page_samples::is_possible;
 use pt_core::Point;
 
-/// The vertices of the best polygon, a bit for each, and its penalty: of those through the path's first point, or of
-/// those that begin at any point.
+/// The vertices of the best polygon, one bit for each, and its penalty. With `through_first` only polygons through the
+/// path's first point are tried.
 pub(super) fn best(points: &[Point], through_first: bool) -> (u32, u64)
     requires { length points.now ≤ 24 }
 {
@@ -29,7 +29,7 @@ pub(super) fn best(points: &[Point], through_first: bool) -> (u32, u64)
     (vertices, cost)
 }
 
-/// Whether a list of vertices is lower than another one of as many: it has the first one in which they
+/// Whether a list of vertices is lower than another one of the same length: it has the first vertex in which they
 /// differ.
 fn is_lower(list: u32, other: u32) -> bool {
     let differing = list ^ other;
@@ -37,8 +37,8 @@ fn is_lower(list: u32, other: u32) -> bool {
     list & first != 0
 }
 
-/// The penalty of a polygon's segments together, where each of them is possible. The last one leads from the last vertex
-/// to the first one again.
+/// The sum of the penalties of a polygon's segments, if all segments are possible. The last segment leads from the last
+/// vertex to the first one.
 fn total(costs: &[[Option<u64>; 49]; 25], size: usize, list: u32) -> Option<u64>
     requires { size ≤ 24 }
 {
@@ -54,7 +54,7 @@ fn total(costs: &[[Option<u64>; 49]; 25], size: usize, list: u32) -> Option<u64>
     Some(total)
 }
 
-/// The penalties of the possible segments, also of those that lead past the path's end.
+/// The penalties of the possible segments, including those that lead past the path's end.
 fn segments(points: &[Point]) -> [[Option<u64>; 49]; 25]
     requires { length points.now ≤ 24 }
 {
@@ -70,7 +70,7 @@ fn segments(points: &[Point]) -> [[Option<u64>; 49]; 25]
     costs
 }
 
-/// The penalty of a segment, by the sum over its points.
+/// The penalty of a segment, as a sum over its points.
 fn penalty(points: &[Point], i: usize, j: usize) -> u64 {
     let size = points.len();
     if size == 0 || j <= i || 100_000 < j {
@@ -92,7 +92,7 @@ fn penalty(points: &[Point], i: usize, j: usize) -> u64 {
     u64::MAX
 }
 
-/// How far one point is from another.
+/// The offset from one point to another.
 fn offset(from: Point, to: Point) -> (i64, i64) {
     (
         i64::from(to.x).wrapping_sub(i64::from(from.x)),

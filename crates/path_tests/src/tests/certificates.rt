@@ -1,4 +1,4 @@
-//! Texts of certificates, and what becomes of them where a byte or a number is another.
+//! Texts of certificates, and the verdicts after a byte or a number is changed.
 
 use outline_check::label::Label;
 use outline_check::labels::labels;
@@ -8,13 +8,13 @@ use pt_core::{NoMemory, Point, put_number};
 use std::alloc::Global;
 use std::test::Fail;
 
-/// A page of one pixel with its path.
+/// The start of a certificate: a page of one pixel with its path.
 const ONE: &str = "proofs 1 1 1\npath 0,1 0,0 1,0 1,1\n";
 
-/// A page of two pixels in a row with theirs.
+/// The start of a certificate: a page of two pixels in a row with their path.
 const TWO: &str = "proofs 2 1 1\npath 0,1 0,0 1,0 2,0 2,1 1,1\n";
 
-/// The rest of their texts.
+/// The rest of both certificates.
 const ONE_RIGHT: &str = "at 0 1 2 3\nlabels 4:0 3:0 2:0 1:0 0:0\n";
 
 const TWO_RIGHT: &str = "at 0 2 4\nlabels 3:294 3:0 2:147 2:0 1:0 1:0 0:0\n";
@@ -28,7 +28,7 @@ const VERDICTS: &[(&str, &str, Verdict)] = &[
         Verdict::Right(1),
     ),
     ("proofs 1 1 0\n", "", Verdict::Right(0)),
-    // A label, a vertex or a point too many, too few, or another one.
+    // One label, vertex or point too many, one too few, or another one.
     (
         ONE,
         "at 0 1 2 3\nlabels 4:0 3:0 2:1 1:0 0:0\n",
@@ -60,7 +60,7 @@ const VERDICTS: &[(&str, &str, Verdict)] = &[
         "at 0 1 3 4\nlabels 3:294 3:0 2:147 2:0 1:0 1:0 0:0\n",
         Verdict::Wrong(1),
     ),
-    // A polygon as good, of a higher list; and labels of the lower one that are no least ones.
+    // A polygon that is equally good but has a higher list, and labels of the lower one that aren't the least.
     (
         TWO,
         "at 0 3 5\nlabels 3:294 3:0 2:147 2:0 1:0 1:0 0:0\n",
@@ -81,7 +81,7 @@ const VERDICTS: &[(&str, &str, Verdict)] = &[
         "at 0\nlabels 0:0\n",
         Verdict::Wrong(1),
     ),
-    // Two paths, of which the second is wrong, and three, of which the second and the third are.
+    // Two paths with the second one wrong, and three paths with the second and the third one wrong.
     (
         "proofs 1 1 2\n",
         "path 0,1 0,0 1,0 1,1\nat 0 1 2 3\nlabels 4:0 3:0 2:0 1:0 0:0\n\
@@ -95,7 +95,7 @@ const VERDICTS: &[(&str, &str, Verdict)] = &[
          path 0,1 0,0 1,0 1,1\nat 0 1 2\nlabels 4:0 3:0 2:0 1:0 0:0\n",
         Verdict::Wrong(2),
     ),
-    // No text of certificates.
+    // Texts that aren't certificates.
     ("", "", Verdict::BadProofs),
     ("proofs 1 1 0", "", Verdict::BadProofs),
     ("proofs 1 1 0\n", "\n", Verdict::BadProofs),
@@ -173,7 +173,7 @@ fn verdicts(rt: HostRuntime) -> Result<(), Fail> {
     Ok(())
 }
 
-/// The points of `TWO`, and what is left from each of them and at the end, as in `TWO_RIGHT`.
+/// The points of `TWO`, and the labels of each of them and of the end, as in `TWO_RIGHT`.
 const TWO_POINTS: [Point; 6] = [
     Point { x: 0, y: 1 },
     Point { x: 0, y: 0 },
@@ -195,7 +195,7 @@ fn labels_of_two_pixels(rt: HostRuntime) -> Result<(), Fail> {
     Ok(())
 }
 
-/// The right labels of a closed walk; of other points none.
+/// The right labels of a closed walk; none for other points.
 fn labels_of(alloc: Global, points: &[Point]) -> Result<Vec<Label>, Fail> {
     if !is_closed_walk(points) {
         return Ok(Vec::new(alloc));
@@ -203,7 +203,7 @@ fn labels_of(alloc: Global, points: &[Point]) -> Result<Vec<Label>, Fail> {
     Ok(labels(alloc, points)?)
 }
 
-/// The certificate of two pixels in a row: its numbers, each with what stands before it.
+/// The certificate of two pixels in a row: its numbers, each with the text before it.
 const NUMBERS: &[(&str, u64)] = &[
     ("proofs ", 2),
     (" ", 1),
@@ -239,7 +239,7 @@ const NUMBERS: &[(&str, u64)] = &[
     (":", 0),
 ];
 
-/// The same text with other numbers: each is one greater, one less, or twice as great and one more.
+/// The certificate with one number changed: one greater, one less, or twice as great and one more.
 #[test]
 fn each_number_changed(rt: HostRuntime) -> Result<(), Fail> {
     for (place, (_, number)) in NUMBERS.iter().enumerate() {
@@ -255,8 +255,8 @@ fn each_number_changed(rt: HostRuntime) -> Result<(), Fail> {
     Ok(())
 }
 
-/// Other numbers than this one. A page may be larger than its path needs: so the sides, which come first, only
-/// become less.
+/// Other numbers than this one. A page may be larger than its path needs, so its sides, which come first, only become
+/// smaller.
 fn others(place: usize, number: u64) -> [u64; 3] {
     let less = number.saturating_sub(1);
     if place < 2 {
@@ -270,7 +270,7 @@ fn others(place: usize, number: u64) -> [u64; 3] {
     }
 }
 
-/// The text with another number in this place.
+/// The certificate with another number at this index.
 fn text_with(alloc: Global, place: usize, other: u64) -> Result<Vec<u8>, NoMemory> {
     let mut text = Vec::new(alloc);
     for (k, (before, number)) in NUMBERS.iter().enumerate() {

@@ -1,9 +1,9 @@
-//! Steps of one alone.
+//! Only steps to the next index.
 ghost use Rattle.std.specs.Prelude.{◌≡◌, ◌+◌, ◌^◌, ◌<◌, ◌≤◌, min, ◌-◌};
 
 use least_walk::Steps;
 
-/// Only the steps of one are allowed, though the last index is farther off.
+/// A graph in which only steps to the next index are allowed, although windows reach farther.
 #[derive(Drop)]
 pub(super) struct Chain {
     size: u32,
@@ -12,7 +12,7 @@ pub(super) struct Chain {
 }
 
 impl Chain {
-    /// What each step costs.
+    /// The cost of each step.
     const COST: u64 = (1 << 56) - 1;
 
     pub(super) fn new(size: u32) -> Chain

@@ -1,4 +1,4 @@
-//! Cyclic polygons beside the best polygons from each starting point.
+//! Cyclic polygons, compared with the best polygons from each starting point.
 
 use crate::tests::samples::{Pages, page_of};
 use bit_image::Bitmap;
@@ -11,10 +11,10 @@ use pt_core::{NoMemory, Path, Point, Policy};
 use std::alloc::Global;
 use std::test::Fail;
 
-/// A page with one path; the vertices of its cyclic polygon and their penalty; and how many segments the best polygon
-/// through its first point has.
+/// A page with one path, the vertices of its cyclic polygon, their penalty, and the number of segments of the best
+/// polygon through the path's first point.
 const ROWS: &[(&[&str], &[u32], u128, usize)] = &[
-    // Twelve pixels round a middle. Each penalty is 323.
+    // Twelve pixels around the centre. Each segment has the penalty 323.
     (&[".##.", "####", "####", ".##."], &[3, 7, 11, 15], 1292, 5),
     // The lists 0 2 4 and 1 3 5 tie.
     (&["##"], &[0, 2, 4], 294, 3),
@@ -34,8 +34,8 @@ fn worked_paths(rt: HostRuntime) -> Result<(), Fail> {
     Ok(())
 }
 
-/// Whether these are the vertices of the cyclic polygon; their penalty; and how many segments the best one through the first
-/// point has.
+/// Whether these are the vertices of the cyclic polygon, their penalty, and the number of segments of the best polygon
+/// through the first point.
 fn polygons_of(alloc: Global, points: &[Point], at: &[u32]) -> Result<(bool, u128, usize), Fail> {
     if !is_closed_walk(points) {
         return Ok((false, 0, 0));
@@ -49,8 +49,8 @@ fn polygons_of(alloc: Global, points: &[Point], at: &[u32]) -> Result<(bool, u12
     ))
 }
 
-/// Pages, how many there are, and how many paths each has at least and at most. Discs have no corner, so that their windows
-/// are wide.
+/// Pages, how many there are, and the least and the greatest number of paths of each. Discs have no corner, so their
+/// windows are wide.
 const PAGES: &[(Pages, u32, u32, u32)] = &[
     (
         Pages::Shaped(
@@ -98,7 +98,7 @@ fn least_of_all_starts(rt: HostRuntime) -> Result<(), Fail> {
     Ok(())
 }
 
-/// How many paths a page has, and of how many the cyclic polygon is the least of all starting points.
+/// How many paths a page has, and for how many of them the cyclic polygon is the least over all starting points.
 fn least_paths(alloc: Global, page: &Bitmap) -> Result<(u32, u32), Fail> {
     let (mut paths, mut least) = (0u32, 0u32);
     for path in &decompose(alloc, page, Policy::Minority)? {
@@ -108,7 +108,7 @@ fn least_paths(alloc: Global, page: &Bitmap) -> Result<(u32, u32), Fail> {
     Ok((paths, least))
 }
 
-/// Whether the cyclic polygon of a path is the least of those that the best polygon from each point is.
+/// Whether the cyclic polygon of a path is the least among the best polygons from each starting point.
 fn is_least(alloc: Global, path: &Path) -> Result<bool, Fail> {
     let points = path.points.as_slice();
     if !is_closed_walk(points) {
@@ -119,14 +119,14 @@ fn is_least(alloc: Global, path: &Path) -> Result<bool, Fail> {
     Ok(found.at.as_slice() == least.at.as_slice() && found.cost == least.cost)
 }
 
-/// A polygon, by the numbers of its vertices in the path.
+/// A polygon, as the indices of its vertices in the path.
 #[derive(Drop)]
 struct Found {
     at: Vec<u32>,
     cost: u128,
 }
 
-/// The first best one of the polygons from each point.
+/// The first best one among the polygons from each starting point.
 fn least_of_starts(alloc: Global, points: &[Point]) -> Result<Found, Fail> {
     let mut least = from_start(alloc, points, 0)?;
     for start in 1..points.len() {
@@ -140,7 +140,7 @@ fn least_of_starts(alloc: Global, points: &[Point]) -> Result<Found, Fail> {
     Ok(least)
 }
 
-/// The best polygon of the path turned to this point.
+/// The best polygon of the path that starts at this point.
 fn from_start(alloc: Global, points: &[Point], start: usize) -> Result<Found, Fail> {
     let turned = turned(alloc, points, start)?;
     let mut at = Vec::new(alloc);
@@ -157,7 +157,7 @@ fn from_start(alloc: Global, points: &[Point], start: usize) -> Result<Found, Fa
     })
 }
 
-/// The points from this one on, and then those before it.
+/// The points from this one on, followed by the points before it.
 fn turned(alloc: Global, points: &[Point], start: usize) -> Result<Vec<Point>, NoMemory> {
     let mut turned = Vec::new(alloc);
     for k in 0..points.len() {

@@ -1,4 +1,4 @@
-//! Penalties of the longest segment, that another program worked out.
+//! Penalties of the longest segment. Another program computed them.
 
 use page_samples::triangle;
 use prefix_moments::Moments;
@@ -7,10 +7,10 @@ use pt_core::{MOST_STEPS, Point};
 use std::alloc::Global;
 use std::test::Fail;
 
-/// How many steps the longest segment has: up stairs, all the way through the greatest page.
+/// The number of steps of the longest segment: up stairs, all the way through the greatest page.
 const STEPS: u32 = 65534;
 
-/// A limit, and the penalty of that segment where it is below.
+/// A limit, and the penalty of the longest segment if it is below the limit.
 const LIMITS: &[(u64, Option<u64>)] = &[
     (1 << 56, Some(5931415)),
     (5931415, None),
@@ -27,7 +27,7 @@ fn penalties_below_limits(rt: HostRuntime) -> Result<(), Fail> {
     Ok(())
 }
 
-/// The penalty of the stairs, if it is below the limit; nothing of points that have no such stairs.
+/// The penalty of the stairs, if it is below the limit; `None` for points that have no such stairs.
 fn below(alloc: Global, points: &[Point], limit: u64) -> Result<Option<Option<u64>>, Fail> {
     if !is_closed_walk(points) || points.len() < STEPS as usize || MOST_STEPS < STEPS {
         return Ok(None);

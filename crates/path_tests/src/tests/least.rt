@@ -5,7 +5,7 @@ use crate::tests::table::{Listed, Table};
 use least_walk::least;
 use std::test::Fail;
 
-/// A case, the size, the steps, the least walk, and what it costs.
+/// A case, the size, the steps, the least walk, and its cost.
 const CASES: &[(&str, u32, &[Listed], &[u32], u128)] = &[
     ("size one", 1, &[], &[0], 0),
     ("size one, at a price", 1, &[(0, 1, 7)], &[0], 7),
@@ -58,7 +58,7 @@ fn fewest_then_cheapest_then_lowest(rt: HostRuntime) -> Result<(), Fail> {
     Ok(())
 }
 
-/// The size of a chain, and what its steps cost together.
+/// The size of a chain, and the cost of all its steps.
 const CHAINS: &[(u32, u128)] = &[
     (1, 72_057_594_037_927_935),
     (2, 144_115_188_075_855_870),

@@ -1,4 +1,4 @@
-//! The longest segment that a page has room for.
+//! The longest segment that fits on a page.
 
 use page_samples::hooked_stairs;
 use pt_base::is_closed_walk;
@@ -6,8 +6,8 @@ use std::alloc::Global;
 use std::test::Fail;
 use straight_paths::Reach;
 
-/// A point, how many steps the longest segment from there has; where a segment from there ends, and whether it is
-/// possible.
+/// A point, the number of steps of the longest segment from there, the end of a segment from there, and whether that
+/// segment is possible.
 const SEGMENTS: &[(u32, u32, u32, bool)] = &[
     (0, 1, 65534, false),
     (1, 65534, 65535, true),
@@ -24,8 +24,8 @@ fn segments_along_stairs(rt: HostRuntime) -> Result<(), Fail> {
     Ok(())
 }
 
-/// How many steps the longest segment from a point has, and whether this one is possible: along stairs of 65,534 steps, from
-/// point 1 to point 65535, and the way back.
+/// The number of steps of the longest segment from a point, and whether this segment is possible. The path goes up
+/// stairs of 65,534 steps, from point 1 to point 65535, and back.
 fn segment(alloc: Global, i: u32, j: u32) -> Result<(u32, bool), Fail> {
     let points = hooked_stairs(alloc, 32767)?;
     if !is_closed_walk(&points) || points.len() <= i as usize || j <= i {

@@ -1,4 +1,4 @@
-//! The paths of small pages, and those of noise beside a plain program.
+//! The paths of small pages, and those of noise compared with a plain program.
 ghost use Rattle.std.specs.Prelude.{All};
 ghost use Rattle.pt_core.specs.ClosedWalk.{IsClosedWalk};
 ghost use Rattle.path_decompose.specs.Bounds.{IsCornerOf};
@@ -11,7 +11,7 @@ use pt_core::{Path, Policy, Sign};
 use std::alloc::Global;
 use std::test::Fail;
 
-/// Whether this is the points text of a page's paths of more than this area.
+/// Whether this is the points text of a page's paths that are larger than this area.
 fn is_shown(
     alloc: Global,
     rows: &[&str],
@@ -25,7 +25,7 @@ fn is_shown(
     Ok(shown.as_slice() == text.as_bytes())
 }
 
-/// A page, the policy, the greatest area of a speckle, and the points text of the paths that are kept.
+/// A page, the turn policy, the greatest area of a speckle, and the points text of the paths that are kept.
 const PAGES: &[(&[&str], Policy, u32, &str)] = &[
     (&["."], Policy::Left, 0, "points 1 1 0\n"),
     (
@@ -89,7 +89,7 @@ const PAGES: &[(&[&str], Policy, u32, &str)] = &[
         0,
         "points 3 3 1\n+ 5 0,3 0,2 1,2 1,1 0,1 0,0 1,0 1,1 2,1 2,0 3,0 3,1 2,1 2,2 3,2 3,3 2,3 2,2 1,2 1,3\n",
     ),
-    // Black has the majority around corner (2, 2) of the page, and not once the first path is gone.
+    // Black has the majority around corner (2, 2) of the page, but no longer after the first path is removed.
     (
         &["#.##", ".#.#", "####"],
         Policy::Majority,
@@ -97,7 +97,7 @@ const PAGES: &[(&[&str], Policy, u32, &str)] = &[
         "points 4 3 2\n+ 1 0,3 0,2 1,2 1,3\n\
          + 8 2,3 2,2 3,2 3,1 2,1 2,2 1,2 1,1 0,1 0,0 1,0 2,0 3,0 4,0 4,1 4,2 4,3 3,3\n",
     ),
-    // Speckles are those of the limit and less.
+    // Speckles have at most the limit's area.
     (
         &["##.#"],
         Policy::Minority,
@@ -131,7 +131,8 @@ const POLICIES: &[Policy] = &[
     Policy::Minority,
 ];
 
-// 63 lines in each of 64 rows and 64 columns lie between two pixels, and 32 black pixels stand at each side.
+// In each of the 64 rows and 64 columns there are 63 edges between two pixels, and each side of the page has 32 black
+// pixels.
 #[test]
 fn a_checkerboard_uses_each_edge(rt: HostRuntime) -> Result<(), Fail> {
     let page = checkered(rt.alloc(), 64)?;
@@ -142,7 +143,7 @@ fn a_checkerboard_uses_each_edge(rt: HostRuntime) -> Result<(), Fail> {
     Ok(())
 }
 
-/// How many edges the paths have together.
+/// The number of edges of all paths.
 fn edges_of(paths: &[Path]) -> usize {
     let mut edges = 0usize;
     for path in paths {
@@ -151,7 +152,7 @@ fn edges_of(paths: &[Path]) -> usize {
     edges
 }
 
-/// The sides of pages and their seeds, with widths around the ends of words.
+/// The sides of pages and their seeds. The widths are around the ends of words.
 const NOISE: &[(usize, usize, u64)] = &[(1, 5, 1), (63, 6, 2), (64, 6, 3), (65, 6, 4), (130, 9, 5)];
 
 #[test]
@@ -181,7 +182,7 @@ fn paths_are_those_of_the_plain_page(rt: HostRuntime) -> Result<(), Fail> {
 #[test]
 fn the_hole_is_inside_both_paths(rt: HostRuntime) -> Result<(), Fail> {
     let page = drawn(rt.alloc(), &["###", "#.#", "###"])?;
-    // The proof reads here how long the page's sides are at most.
+    // From this call the proof knows that the page's sides have an upper limit.
     let _ = page.width();
     for path in &decompose(rt.alloc(), &page, Policy::Minority)? {
         assert_eq!(rt; insides(path), wanted_insides(path.sign));
@@ -189,7 +190,7 @@ fn the_hole_is_inside_both_paths(rt: HostRuntime) -> Result<(), Fail> {
     Ok(())
 }
 
-/// Whether those places are inside the outer path, and inside the hole's.
+/// Which of the five places are inside the outer path, and which are inside the hole's path.
 fn wanted_insides(sign: Sign) -> [bool; 5] {
     match sign {
         Sign::Plus => [true, true, true, false, false],
@@ -197,7 +198,7 @@ fn wanted_insides(sign: Sign) -> [bool; 5] {
     }
 }
 
-/// Whether a black pixel, the hole, another black one and two beside the page are inside.
+/// Whether a black pixel, the hole, another black pixel and two places beside the page are inside the path.
 fn insides(path: &Path) -> [bool; 5]
     requires closed { IsClosedWalk path.now.points }
     requires corners { All (IsCornerOf 32767 32767) path.now.points }

@@ -1,18 +1,18 @@
-//! The plain program: the paths of a page of one entry a pixel under the turn policy `right`.
+//! The plain program: the paths of a page that is stored with one entry per pixel, under the turn policy `right`.
 
 use bit_image::Bitmap;
 use page_samples::PlainPage;
 use std::alloc::Global;
 use std::test::Fail;
 
-/// The start, the number of points and the area of each path, where each choice is a turn to the right.
+/// The start, the number of points and the area of each path, if every ambiguous turn goes right.
 pub fn paths_to_the_right(
     alloc: Global,
     page: &Bitmap,
 ) -> Result<Vec<(usize, usize, usize, usize)>, Fail> {
     let mut rest = PlainPage::of(alloc, page)?;
     let mut paths = Vec::new(alloc);
-    // Each path has a start of its own.
+    // Each path has its own start.
     for _ in 0..rest.size() {
         let Some((x, y)) = rest.first_black() else {
             break;
@@ -23,7 +23,7 @@ pub fn paths_to_the_right(
     Ok(paths)
 }
 
-/// Walks once round from the first black pixel, and inverts each row from each upright line on.
+/// Walks once around from the first black pixel, and inverts each row from each vertical edge on.
 fn take_path(
     alloc: Global,
     rest: &mut PlainPage,
@@ -42,7 +42,7 @@ fn take_path(
     Ok((lines.len(), area))
 }
 
-/// The lines of the walk from pixel (x, y), each with its place where it is upright.
+/// The edges of the walk from pixel (x, y), each with its position if it is vertical.
 fn walk(
     alloc: Global,
     page: &PlainPage,
@@ -62,7 +62,7 @@ fn walk(
     Ok(lines)
 }
 
-/// The place of a line that leaves a corner with this heading, if it is upright.
+/// The position of an edge that leaves a corner with this heading, if it is vertical.
 fn upright(edge: (usize, usize, u8)) -> Option<(usize, usize)> {
     let (column, row, heading) = edge;
     match heading {
@@ -88,7 +88,7 @@ fn onward(page: &PlainPage, edge: (usize, usize, u8)) -> (usize, usize, u8) {
     )
 }
 
-/// The heading between a pixel on the left and one on the right.
+/// The new heading, which has black on its left and white on its right.
 fn turned(ahead: (bool, bool), heading: u8) -> u8 {
     match ahead {
         (true, false) => heading,

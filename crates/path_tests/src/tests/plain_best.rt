@@ -1,4 +1,4 @@
-//! The plain program: a path's best polygon by each pair of a point and one that its segments reach.
+//! The plain program: a path's best polygon, found by trying each point with each one that its segments reach.
 ghost use Rattle.std.specs.Prelude.{◌≡◌, ◌+◌, ◌<◌, ◌≤◌, length};
 ghost use Rattle.pt_core.specs.ClosedWalk.{IsClosedWalk};
 ghost use Rattle.pt_core.specs.OnPage.{AreOnPage};
@@ -45,7 +45,7 @@ pub(super) fn plain_polygon(alloc: Global, points: &[Point]) -> Result<(Vec<u32>
     Ok((at, best[0].cost))
 }
 
-/// The best way on from a point, by that from each later point up to the last in reach.
+/// The best way on from a point, if those from each later point up to `last` are known.
 fn onward(moments: &Moments, from: u32, last: u32, best: &[Best]) -> Best
     requires point { from < length moments.now }
     requires within { last ≤ length moments.now }
@@ -68,7 +68,7 @@ fn onward(moments: &Moments, from: u32, last: u32, best: &[Best]) -> Best
     found
 }
 
-/// The best way that begins with a segment to this point, from which there is this one.
+/// The way that begins with a segment to this point and continues with `rest`.
 fn onto(penalty: u64, to: u32, rest: Best) -> Best {
     Best {
         count: rest.count.saturating_add(1),

@@ -1,4 +1,4 @@
-//! Best polygons, through a path's first point and cyclic ones, beside a search over all lists of vertices.
+//! Best polygons, through a path's first point and cyclic ones, compared with a search over all lists of vertices.
 
 use crate::tests::best::best;
 use cyclic_optimal::cyclic_polygon;
@@ -33,7 +33,7 @@ fn best_of_all_lists(rt: HostRuntime) -> Result<(), Fail> {
     Ok(())
 }
 
-/// Whether the polygon of a path is the best one of all lists of vertices with the first point.
+/// Whether the polygon of a path is the best one among all lists of vertices with the first point.
 fn is_best(alloc: Global, points: &[Point]) -> Result<bool, Fail> {
     if 24 < points.len() || !is_closed_walk(points) {
         return Ok(false);
@@ -43,7 +43,7 @@ fn is_best(alloc: Global, points: &[Point]) -> Result<bool, Fail> {
     Ok(bits_of(polygon.at.as_slice()) == vertices && polygon.cost == u128::from(cost))
 }
 
-/// Whether the cyclic polygon of a path is the best one of all lists of vertices.
+/// Whether the cyclic polygon of a path is the best one among all lists of vertices.
 fn is_best_round(alloc: Global, points: &[Point]) -> Result<bool, Fail> {
     if 24 < points.len() || !is_closed_walk(points) {
         return Ok(false);

@@ -1,4 +1,4 @@
-//! What is known by hand of the paths round rectangles: segments, corners, sums, penalties and polygons.
+//! Paths around rectangles, with results that were found by hand: segments, corners, sums, penalties and polygons.
 ghost use Rattle.std.specs.Prelude.{IfOk};
 ghost use Rattle.pt_core.specs.ClosedWalk.{IsClosedWalk};
 ghost use Rattle.pt_core.specs.OnPage.{AreOnPage};
@@ -12,7 +12,7 @@ use std::alloc::Global;
 use std::test::Fail;
 use straight_paths::Reach;
 
-/// The path round a rectangle at the lower left corner of a page.
+/// The path around a rectangle at the lower left corner of a page.
 fn path_round(alloc: Global, width: i32, height: i32) -> Result<Vec<Point>, Fail>
     ensures closed { IfOk result (λ points. IsClosedWalk points.items) }
     ensures on_page { IfOk result (λ points. AreOnPage points.items) }
@@ -24,9 +24,9 @@ fn path_round(alloc: Global, width: i32, height: i32) -> Result<Vec<Point>, Fail
     Ok(points)
 }
 
-/// The rectangle's sides and a segment; how far the segments from its start go, and how many steps the next corner is off;
-/// and whether it is possible. What isn't known is left out. The largest one is a page of 297 by 210 millimetres at 300
-/// pixels an inch.
+/// The rectangle's sides, a segment, how far the segments from its start reach, how many steps away the next corner is,
+/// and whether the segment is possible. Values that aren't known are left out. The largest rectangle is a page of 297
+/// by 210 millimetres at 300 pixels per inch.
 const REACHES: &[(i32, i32, u32, u32, Option<u32>, Option<u32>, Option<bool>)] = &[
     (3, 3, 0, 1, Some(3), Some(3), None),
     (3, 3, 1, 2, Some(2), Some(2), None),
@@ -84,7 +84,7 @@ fn reach(alloc: Global, width: i32, height: i32, i: u32, j: u32) -> Result<(u32,
     Ok((reach.far(i), reach.next_corner(i), reach.possible(i, j)))
 }
 
-/// The rectangle's sides; a segment, its penalty and its sums. What isn't known is left out.
+/// The rectangle's sides, a segment, its penalty and its sums. Values that aren't known are left out.
 const MOMENTS: &[(i32, i32, u32, u32, Option<u64>, Option<Sums>)] = &[
     (3, 3, 2, 4, Some(147), None),
     (3, 3, 0, 12, Some(0), None),
@@ -142,7 +142,7 @@ fn moments(alloc: Global, width: i32, height: i32, i: u32, j: u32) -> Result<(u6
     Ok((moments.penalty(i, j), moments.sums(i, j)))
 }
 
-/// The rectangle's sides; the best polygon's vertices, and its penalty.
+/// The rectangle's sides, the best polygon's vertices, and its penalty.
 const POLYGONS: &[(i32, i32, &[u32], u128)] = &[
     (1, 1, &[0, 1, 2, 3], 0),
     (5, 5, &[0, 5, 10, 15], 0),
@@ -152,7 +152,7 @@ const POLYGONS: &[(i32, i32, &[u32], u128)] = &[
     // The middle segment has to end at point 42, and the first one may lead to point 40.
     (40, 1, &[0, 21, 42], 5846),
     (248, 351, &[0, 351, 599, 950], 0),
-    // The longest bar, whose polygon another program worked out.
+    // The longest bar. Another program computed its polygon.
     (32767, 1, &[0, 206, 32769], 4842942),
 ];
 

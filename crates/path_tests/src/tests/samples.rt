@@ -1,24 +1,24 @@
-//! Pages by rows of a table.
+//! Pages, by rows of a table.
 
 use bit_image::Bitmap;
 use page_samples::pages::NoPage;
 use page_samples::{Shape, checkered, noise, numbered, shaped};
 use std::alloc::Global;
 
-/// What pages are.
+/// A kind of pages.
 #[derive(Clone, Copy)]
 pub(super) enum Pages {
-    /// Those of 3 by 3 pixels.
+    /// All pages of 3 by 3 pixels.
     Small,
     /// A shape on a page of this side.
     Shaped(Shape, usize),
     /// A checkerboard of this side. Its paths are teeth of single pixels, in rings.
     Checkered(usize),
-    /// Noise on pages so wide and high.
+    /// Noise on pages of this width and height.
     Noise(usize, usize),
 }
 
-/// The page of this number; of a shape and of a checkerboard there is one.
+/// The page of this kind with this number. There is only one page of a shape or of a checkerboard.
 pub(super) fn page_of(alloc: Global, pages: Pages, number: u32) -> Result<Bitmap, NoPage> {
     match pages {
         Pages::Small => numbered(alloc, number),

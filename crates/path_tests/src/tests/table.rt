@@ -4,10 +4,10 @@ ghost use Rattle.std.specs.Prelude.{find, IsSome, unwrap_or, min, option_map};
 
 use least_walk::Steps;
 
-/// A step's ends and what it costs.
+/// A step's start and end, and its cost.
 pub(super) type Listed = (u32, u32, u64);
 
-/// The steps of one, which cost nothing if they aren't listed, and those that are listed.
+/// The steps to the next index, which cost nothing if they aren't listed, and all listed steps.
 #[derive(Drop)]
 pub(super) struct Table<'a> {
     size: u32,

@@ -16,9 +16,10 @@ fn corner(x: i32, y: i32) -> Point
     }
 }
 
-/// Where a path comes to a corner, and how it goes on there.
+/// A corner, the heading with which a path arrives there, the turn policy, the sign of the path, and the heading with
+/// which it leaves.
 const TURNS: &[(i32, i32, Dir, Policy, Sign, Dir)] = &[
-    // At a corner where two black pixels meet.
+    // A corner at which two black pixels meet.
     (1, 1, Dir::East, Policy::Left, Sign::Plus, Dir::North),
     (1, 1, Dir::East, Policy::Right, Sign::Plus, Dir::South),
     (1, 1, Dir::East, Policy::Black, Sign::Plus, Dir::South),
@@ -56,8 +57,8 @@ const QUARTERS: [&str; 8] = [
     "####....", "####....", "####....", "####....", "....####", "....####", "....####", "....####",
 ];
 
-// At the middle of four quarters all rings tie; around a quarter's own middle black has more, at a corner
-// of the page white.
+// At the centre of four quarters all rings tie. Around the centre of one quarter black has the majority, and at a
+// corner of the page white has it.
 const MAJORITIES: &[(i32, i32, bool)] = &[
     (4, 4, false),
     (6, 2, true),

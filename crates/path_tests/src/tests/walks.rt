@@ -1,4 +1,4 @@
-//! Possible segments of all short walks, beside the criterion over all triples.
+//! The possible segments of all short walks, compared with the criterion over all triples.
 ghost use Rattle.std.specs.Prelude.{◌≡◌, ◌<◌, length};
 
 use page_samples::{draw, is_possible};
@@ -8,7 +8,7 @@ use std::alloc::Global;
 use std::test::Fail;
 use straight_paths::Reach;
 
-/// The steps of a walk, and how many ways they can go.
+/// The number of steps of a walk, and the number of ways to choose their directions.
 const WALKS: &[(usize, u32)] = &[
     (4, 256),
     (6, 4096),
@@ -32,7 +32,7 @@ fn all_walks_of_twelve_steps(rt: HostRuntime) -> Result<(), Fail> {
     Ok(())
 }
 
-/// Whether the segments of a walk are possible where the criterion says so, if it is closed.
+/// If the walk is closed, whether its segments are possible exactly if the criterion says so.
 fn compared(alloc: Global, size: usize, code: u32) -> Result<Option<bool>, Fail> {
     let mut points = [Point { x: 0, y: 0 }; 12];
     let Some(points) = points.get_mut(..size) else {
@@ -49,7 +49,7 @@ fn compared(alloc: Global, size: usize, code: u32) -> Result<Option<bool>, Fail>
     Ok(Some(alike))
 }
 
-/// Whether those from a point are, if there is one of this number.
+/// Whether the segments from point i agree with the criterion, if there is a point i.
 fn is_alike_from(points: &[Point], reach: &Reach, i: u32) -> bool
     requires { reach.now ≡ points.now }
 {

@@ -20,7 +20,7 @@ const CASES: &[(&str, u32, &[Listed], &[(u32, u32)])] = &[
         &[(0, 4, 1), (1, 6, 1), (4, 6, 1)],
         &[(0, 0), (1, 4), (6, 6)],
     ),
-    // From 3 two steps are left.
+    // From index 3 two steps are left.
     (
         "too far",
         5,

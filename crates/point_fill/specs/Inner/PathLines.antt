@@ -6,16 +6,16 @@ use Rattle.pt_core.specs.declared.path.Path.{Path}
 use Rattle.pt_core.specs.declared.point.Point.{Point}
 use Rattle.point_fill.specs.PointsFile.{IsLoop, IsToldPath}
 
--- the points of a loop and the end of the line stand at the front, and then the rest
+-- the bytes begin with the points of a loop and the end of the line, followed by `rest`
 pub record IsLoopLine (width height : ℕ) (bytes : List ℕ) (points : List Point) (rest : List ℕ) : Type 0 where
   pub is : bytes ≡ flat_map point_text points ++ 10 ∷ rest
   pub loop : IsLoop width height points
 
--- the line of a path stands at the front, and then the rest
+-- the bytes begin with the line of a path, followed by `rest`
 abbrev pub IsPathLine : ℕ → ℕ → List ℕ → Path → List ℕ → Type 0
 IsPathLine width height = IsPart path_text (IsToldPath width height)
 
--- these paths, so many, are all that is left
+-- these `count` paths are all that is left of the text, from index `at` on
 pub record ArePathsAt (text : List ℕ) (at count width height : ℕ) (paths : List Path) : Type 0 where
   pub count_is : length paths ≡ count
   pub told : All (IsToldPath width height) paths

@@ -1,4 +1,4 @@
-//! Runs of `point_fill` over standard input in memory, and what is to come of them.
+//! Runs of `point_fill` over standard input in memory, with their expected results.
 use mem_outside::{InCall, MemInputs, MemOutputs, MemSink, OutCall};
 use page_samples::{first_of, listed, named};
 use point_fill_run::fill_run;
@@ -7,25 +7,25 @@ use std::alloc::Global;
 use std::process::Abort;
 use std::test::Fail;
 
-/// What a run is made of, and what is to come of it.
+/// A run and its expected results.
 #[derive(Clone, Copy)]
 pub struct Case<'a> {
-    /// A word, if there is one.
+    /// A command-line argument, if there is one.
     pub word: Option<&'a str>,
-    /// The name of the one file, and its bytes.
+    /// The name of the only file, and its bytes.
     pub name: &'a str,
     pub input: &'a [u8],
-    /// How many bytes a read and a write take.
+    /// The most bytes of one read or write.
     pub most: u32,
-    /// The calls that fail; those of a message are counted from 1.
+    /// The calls that fail. Calls of a message are counted from 1.
     pub unread: Option<InCall>,
     pub unwritten: Option<OutCall>,
     pub unsaid: Option<u64>,
-    /// How the run is to end.
+    /// The expected exit status.
     pub status: u8,
-    /// The document that is to be there, and whether it is whole.
+    /// The expected document, and whether it is whole.
     pub document: Option<(&'a [u8], bool)>,
-    /// The message.
+    /// The expected message.
     pub said: &'a str,
 }
 
@@ -34,7 +34,7 @@ pub const DIAGONAL: &[u8] = b"points 2 2 2\n+ 1 0,2 0,1 1,1 1,2\n+ 1 1,1 1,0 2,0
 
 pub const DIAGONAL_PAGE: &[u8] = b"P4\n2 2\n\x80\x40";
 
-/// A run over that text where no call fails and no document is to come.
+/// A run over that text in which no call fails and no document is expected.
 pub const PLAIN: Case<'static> = Case {
     word: None,
     name: "-",
@@ -49,7 +49,7 @@ pub const PLAIN: Case<'static> = Case {
 };
 
 impl<'a> Case<'a> {
-    /// Runs, and looks at all that came of it.
+    /// Makes the run and checks all results.
     pub fn check(&self, rt: &impl Abort, alloc: Global) -> Result<(), Fail> {
         let mut words = Vec::new(alloc);
         if let Some(word) = self.word {
@@ -76,7 +76,7 @@ impl<'a> Case<'a> {
     }
 }
 
-/// Runs each case.
+/// Checks each case.
 pub fn check_all(rt: &impl Abort, alloc: Global, cases: &[Case]) -> Result<(), Fail> {
     for case in cases {
         case.check(rt, alloc)?;

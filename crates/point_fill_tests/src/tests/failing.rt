@@ -1,4 +1,4 @@
-//! Words, and devices that fail: nothing more is written after.
+//! Arguments that are refused, and devices that fail. Nothing more is written after a failure.
 
 use crate::tests::cases::{Case, DIAGONAL_PAGE, PLAIN, check_all};
 use mem_outside::{InCall, OutCall};
@@ -12,7 +12,7 @@ const RUNS: &[Case] = &[
         document: Some((DIAGONAL_PAGE, true)),
         ..SHORT
     },
-    // No word is taken.
+    // The program takes no argument.
     Case {
         word: Some("-h"),
         status: 1,
@@ -26,7 +26,7 @@ const RUNS: &[Case] = &[
         said: "point_fill: bad arguments\n",
         ..PLAIN
     },
-    // Standard input isn't there, can't be opened, or fails later.
+    // Standard input is missing, can't be opened, or fails later.
     Case {
         name: "a.points",
         status: 3,
@@ -45,7 +45,7 @@ const RUNS: &[Case] = &[
         said: "point_fill: -: read fault\n",
         ..SHORT
     },
-    // The read that would tell the end of the text.
+    // The read that would find the end of the text.
     Case {
         unread: Some(InCall::Read(2)),
         status: 3,
@@ -73,7 +73,7 @@ const RUNS: &[Case] = &[
         said: "point_fill: -: write fault\n",
         ..PLAIN
     },
-    // A failing message changes no status, and its rest is given up.
+    // A failing message doesn't change the status, and the rest of it is dropped.
     Case {
         input: b"points",
         unsaid: Some(2),

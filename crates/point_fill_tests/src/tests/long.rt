@@ -1,4 +1,4 @@
-//! Texts of as many bytes as are taken, and of one more.
+//! Texts of the greatest length that is accepted, and of one byte more.
 
 use mem_outside::{MemOutputs, MemSink};
 use point_fill_run::fill_run;
@@ -7,7 +7,7 @@ use std::alloc::Global;
 use std::process::Abort;
 use std::test::Fail;
 
-/// Standard input of so many bytes, which holds none of them: they are those that stand in the buffer.
+/// Standard input with a given number of bytes. It stores none of them: a read leaves the buffer as it is.
 #[derive(Drop)]
 struct LongInput {
     left: usize,
@@ -45,7 +45,7 @@ impl Inputs for LongInput {
     ghost opened_is_there = { λ _. tt };
 }
 
-/// How long a text is, and why it is refused.
+/// The length of a text, and the message with which it is refused.
 const LENGTHS: [(usize, &str); 2] = [
     (1_073_741_824, "point_fill: -: bad points\n"),
     (1_073_741_825, "point_fill: -: text too long\n"),
@@ -59,7 +59,7 @@ fn longest(rt: HostRuntime) -> Result<(), Fail> {
     Ok(())
 }
 
-/// Runs over so many bytes, and looks at the message.
+/// Makes a run over this number of bytes and checks the message.
 fn check(rt: &impl Abort, alloc: Global, left: usize, said: &str) -> Result<(), Fail> {
     let words = Vec::new(alloc);
     let mut inputs = LongInput { left, openings: 0 };

@@ -6,15 +6,15 @@ use std::test::Fail;
 /// Texts and their pages.
 const FILLED: &[(&[u8], &[u8])] = &[
     (DIAGONAL, DIAGONAL_PAGE),
-    // One path that touches itself at a corner gives the same page.
+    // One path that touches itself at a corner makes the same page.
     (
         b"points 2 2 1\n+ 2 0,2 0,1 1,1 1,0 2,0 2,1 1,1 1,2\n",
         DIAGONAL_PAGE,
     ),
-    // A page without a path is white, and so is one whose loop turns back.
+    // A page without a path is white, and so is one with a loop that turns back.
     (b"points 1 1 0\n", b"P4\n1 1\n\x00"),
     (b"points 1 1 1\n+ 1 0,0 0,1 0,0 0,1\n", b"P4\n1 1\n\x00"),
-    // Signs and areas aren't compared, also the greatest one.
+    // Signs and areas aren't compared, not even the greatest area.
     (
         b"points 1 1 1\n- 18446744073709551615 0,1 0,0 1,0 1,1\n",
         b"P4\n1 1\n\x80",
@@ -24,14 +24,14 @@ const FILLED: &[(&[u8], &[u8])] = &[
         b"points 3 3 2\n+ 9 0,3 0,2 0,1 0,0 1,0 2,0 3,0 3,1 3,2 3,3 2,3 1,3\n- 1 1,2 2,2 2,1 1,1\n",
         b"P4\n3 3\n\xe0\xa0\xe0",
     ),
-    // The same path twice.
+    // One path, given twice.
     (
         b"points 1 1 2\n+ 1 0,1 0,0 1,0 1,1\n+ 1 0,1 0,0 1,0 1,1\n",
         b"P4\n1 1\n\x00",
     ),
 ];
 
-/// Texts that tell no paths on a page.
+/// Texts that don't describe paths on a page.
 const REFUSED: &[&[u8]] = &[
     b"",
     b"points 1 1 0",
@@ -45,10 +45,10 @@ const REFUSED: &[&[u8]] = &[
     b"points  1 1 0\n",
     b"polygons 1 1 0\n",
     b"Points 1 1 0\n",
-    // Three points, and a loop that stays open.
+    // Three points, and a loop that isn't closed.
     b"points 1 1 1\n+ 1 0,1 0,0 1,0\n",
     b"points 2 1 1\n+ 1 0,0 1,0 2,0 2,1\n",
-    // A step of two pixels, and one that goes across.
+    // A step of two pixels, and a diagonal step.
     b"points 2 2 1\n+ 1 0,2 0,0 1,0 1,1\n",
     b"points 2 2 1\n+ 1 0,0 1,1 1,0 0,1\n",
     // A point that isn't on the page.

@@ -4,7 +4,7 @@ use Rattle.run_output.specs.declared.part.Binding.{Binding}
 use Rattle.run_output.specs.declared.part.Binding.TheVariants as binding
 use Rattle.run_output.specs.Parts.{is_first_page}
 
--- whether a document of a file is open behind so many of its pages
+-- whether a file's document is open after this number of its pages
 abbrev pub is_begun : Binding → ℕ → Bool
 is_begun binding.Apart pages = false
 is_begun binding.Together pages = not (is_first_page pages)

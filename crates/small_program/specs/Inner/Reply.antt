@@ -1,4 +1,4 @@
--- How a run ends, and what it says, by a reply or a stop at the input as the program has them.
+-- How a run ends and what it reports, as the code has its reply or the reason why the input couldn't be read.
 use Rattle.std.specs.Prelude.{ℕ, List, codes}
 use Rattle.run_output.specs.declared.status.Status.{Status}
 use Rattle.run_output.specs.declared.status.Status.TheVariants as status
@@ -9,25 +9,25 @@ use Rattle.small_program.specs.declared.input.InputStop.TheVariants as stops
 use Rattle.small_program.specs.declared.task.Reply.{Reply}
 use Rattle.small_program.specs.declared.task.Reply.TheVariants as replies
 
--- how a run ends with this reply, where its document is written
+-- how a run with this reply ends, if its document is written
 abbrev pub reply_ending : Reply → Status
 reply_ending (replies.Right text) = status.Done
 reply_ending (replies.Wrong text) = status.Wrong
 reply_ending (replies.Refused message) = status.Refused
 
--- the document's text, or why the input is refused
+-- the text of a reply's document, or the reason for which the input is refused
 abbrev pub reply_text : Reply → List ℕ
 reply_text (replies.Right text) = text.items
 reply_text (replies.Wrong text) = text.items
 reply_text (replies.Refused message) = message.now
 
--- how a run ends that stops so at its input
+-- how a run ends if its input couldn't be read for this reason
 abbrev pub stop_ending : InputStop → Status
 stop_ending stops.Unread = status.Unread
 stop_ending stops.TooLong = status.Refused
 stop_ending stops.OutOfMemory = status.OutOfMemory
 
--- what a run says that stops so at its input
+-- what a run reports if its input couldn't be read for this reason
 abbrev pub stop_line : List ℕ → InputStop → List ℕ
 stop_line program stops.Unread = file_line program dash (codes "read fault")
 stop_line program stops.TooLong = file_line program dash (codes "text too long")

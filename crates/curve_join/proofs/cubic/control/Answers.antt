@@ -1,11 +1,11 @@
 use Rattle.std.proofs.Common.{◌≡◌, ℕ, ◌≤◌, ◌^◌, ℤ, pos, ◌+ℤ◌, ◌*ℤ◌, w32, w64, to_z, of_z, refl, arith}
 use Rattle.std.specs.Prelude.{unsigned_abs}
 use Rattle.pt_core.specs.Floor.{floor_of}
-use Rattle.curve_join.proofs.Fitting.{back, short_size_back, size_back}
-use Rattle.curve_join.proofs.Mixing.{short_back, short_size}
+use Rattle.curve_join.proofs.Widths.{back, short_size_back, size_back}
+use Rattle.curve_join.proofs.WeightedSums.{short_back, short_size}
 use Rattle.curve_join.proofs.cubic.control.Goals as goal
 
--- a coordinate of the control
+-- a coordinate of the control point
 there : (r p v : ℤ) (alpha : ℕ) → unsigned_abs r ≤ 2 ^ 29 → unsigned_abs p ≤ 2 ^ 26 → unsigned_abs v ≤ 2 ^ 27
     → r ≡ to_z w32 (of_z w32 p) +ℤ floor_of (pos alpha *ℤ to_z w64 (of_z w64 v)) 65536 → to_z w32 (of_z w32 r) ≡ p +ℤ floor_of (pos alpha *ℤ v) 65536
 there r p v alpha hr hp hv e = rw (short_back r hr, e, short_back p (omega arith), back v (omega arith)) refl

@@ -2,7 +2,7 @@ use Rattle.std.proofs.Common.{◌≡◌, ℕ, List, length, sym, ap, subst, ◌�
 use Rattle.least_walk.specs.LeastWalk.{IsWalk, walk_from}
 use Rattle.curve_join.specs.Choice.{MayBeOne, cut_pieces}
 use Rattle.curve_join.specs.Outline.{outline}
-use Rattle.curve_join.proofs.Cutting.{best_join, length-bends_of}
+use Rattle.curve_join.proofs.Cuts.{best_join, length-bends_of}
 use Rattle.curve_join.proofs.joins.join_by.Goals as goal
 
 one_each : (c : goal.After-deref) → length c.args.pieces.now ≡ length c.in_ok-runs.runs.bends.items

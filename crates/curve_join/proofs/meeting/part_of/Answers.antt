@@ -5,10 +5,10 @@ use Rattle.std.specs.Prelude.{unsigned_abs}
 use Rattle.std.specs.Int.RustNames.{FitsSigned}
 use Rattle.pt_core.specs.Floor.{floor_of}
 use Rattle.curve_join.proofs.Division.{shift_is, short_shift}
-use Rattle.curve_join.proofs.Fitting.{back, long_back, product_most}
+use Rattle.curve_join.proofs.Widths.{back, long_back, product_most}
 use Rattle.curve_join.proofs.meeting.part_of.Goals as goal
 
--- a short product
+-- a short product fits in 64 bits
 short_fits : (t v : ℤ) (n : ℕ) → unsigned_abs t ≤ 2 ^ 58 → unsigned_abs v ≤ 2 ^ 27 → n ≡ unsigned_abs (to_z w64 (of_z w64 t)) → n ≤ 2 ^ 35
     → FitsSigned w64 (to_z w64 (of_z w64 t) *ℤ to_z w64 (of_z w64 v))
 short_fits t v n ht hv is few =
@@ -19,7 +19,7 @@ short_fits t v n ht hv is few =
 positive : (b r : ℤ) → FitsSigned w64 b → r ≡ to_z w64 (of_z w64 b) → pos 0 <ℤ b → pos 0 <ℤ to_z w128 (of_z w128 r)
 positive b r fits is some = rw (is, to_z-of_z w64 b fits, to_z-of_z w128 b (let h = fits in search rules)) some
 
--- the short form
+-- the computation in 64 bits
 short : (c : goal.After-from) → (to_z w128 (of_z w128 c.from.result) ≡ floor_of (c.args.top *ℤ c.args.way) (unsigned_abs c.args.bottom)) × (unsigned_abs (to_z w128 (of_z w128 c.from.result)) ≤ 2 ^ 85)
 short c =
     let fits : FitsSigned w64 c.args.bottom = search rules in
@@ -35,7 +35,7 @@ returns-then-unsigned_abs-clause-value c = (short c).0
 pub returns-then-unsigned_abs-clause-most : goal.returns-then-unsigned_abs-clause-most
 returns-then-unsigned_abs-clause-most c = (short c).1
 
--- the long form
+-- the computation in 128 bits
 long : (c : goal.After-div_floor) → (c.div_floor.result ≡ floor_of (c.args.top *ℤ c.args.way) (unsigned_abs c.args.bottom)) × (unsigned_abs c.div_floor.result ≤ 2 ^ 85)
 long c =
     let fits : FitsSigned w64 c.args.bottom = search rules in

@@ -5,15 +5,15 @@ use lib.Signed.{le_z}
 use Rattle.curve_join.specs.Vector.{towards}
 use Rattle.curve_join.specs.declared.sense.Sense.{Sense}
 use Rattle.curve_join.specs.declared.sense.Sense.TheVariants.{Left, Right}
-use Rattle.curve_join.proofs.Fitting.{back, size_counted, within_far}
+use Rattle.curve_join.proofs.Widths.{back, size_counted, within_far}
 use Rattle.curve_join.proofs.run.goes_round.Goals as goal
 
--- a number that the code counts in a sense
+-- a number with a sense, as the code computes it
 counted : (s : Sense) (r v z : ℤ) → unsigned_abs v ≤ 2 ^ 58 → v ≡ z → r ≡ towards s (to_z w64 (of_z w64 v)) → to_z w64 (of_z w64 r) ≡ towards s z
 counted Left r v z most is e = rw (e, back v (omega arith), back v (omega arith)) is
 counted Right r v z most is e = rw (e, back v (omega arith)) (back (neg_ℤ v) (omega (arith, ints)) ∙ ap neg_ℤ is)
 
--- what the tests tell
+-- what the tests show
 above_tested : (z : ℤ) → le_z z (pos 0) ≡ false → pos 0 <ℤ z
 above_tested z tested = omega (arith, ints)
 

@@ -1,5 +1,5 @@
 use Rattle.std.proofs.Common.{ap, ◌∙◌}
-use Rattle.curve_join.proofs.Joining.{joined_is}
+use Rattle.curve_join.proofs.JoinedRuns.{joined_is}
 use Rattle.curve_join.proofs.run.joined_curve.Goals as goal
 
 pub returns : goal.returns

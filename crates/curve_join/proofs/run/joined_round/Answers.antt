@@ -4,11 +4,11 @@ use Rattle.std.proofs.lemmas.List.Elements.{All-take}
 use Rattle.curve_join.specs.Inner.Bends.{IsWorkable}
 use Rattle.curve_join.specs.Inner.Costs.{joined_small}
 use Rattle.curve_join.specs.Join.{MayJoin, penalty_at}
-use Rattle.curve_join.proofs.Giving.{both_are}
-use Rattle.curve_join.proofs.Joining.{joined_is, may_join, not_curved, penalty_there, pieces_within, sides_within}
+use Rattle.curve_join.proofs.RunPenalties.{both_are}
+use Rattle.curve_join.proofs.JoinedRuns.{joined_is, may_join, not_curved, penalty_there, pieces_within, sides_within}
 use Rattle.curve_join.proofs.run.joined_round.Goals as goal
 
--- the curve is the run's, and the run may be joined at this penalty
+-- the curve is the run's, and the run may be joined with this penalty
 module _ (c : goal.After-piece) where
   may : MayJoin c.args.tol c.args.run.now.bends.now
   may =

@@ -4,7 +4,7 @@ use Rattle.std.proofs.lemmas.List.Elements.{AllWithin-more}
 use Rattle.std.proofs.lemmas.List.Sums.{sum_by_more, sum_by-take-le}
 use Rattle.std.specs.Prelude.{sum_by}
 use Rattle.curve_join.specs.Join.{CoversPiece, no_bend, piece_penalty}
-use Rattle.curve_join.proofs.Running.{piece_most, sums_fit}
+use Rattle.curve_join.proofs.RunSums.{piece_most, sums_fit}
 use Rattle.curve_join.proofs.run.pieces_penalty.Goals as goal
 
 pub loop-bend-init : goal.loop-bend-init

@@ -1,6 +1,6 @@
 use Rattle.std.proofs.Common.{◌^◌, arith, refl, sym, subst, ◌∙◌}
-use Rattle.curve_join.proofs.Fitting.{size_back, back}
-use Rattle.curve_join.proofs.Joining.{crosses}
+use Rattle.curve_join.proofs.Widths.{size_back, back}
+use Rattle.curve_join.proofs.JoinedRuns.{crosses}
 use Rattle.curve_join.proofs.Meetings.{way_round}
 use Rattle.curve_join.specs.Vector.{GoesNoFarther, way_of}
 use Rattle.curve_join.specs.declared.vector.Displacement.{Displacement}

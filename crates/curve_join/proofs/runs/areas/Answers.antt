@@ -2,7 +2,7 @@ use Rattle.std.proofs.Common.{◌+◌, to_z, arith}
 use mir.Syntax.{w128}
 use Rattle.pt_core.specs.ClosedWalk.{origin}
 use Rattle.curve_join.proofs.Areas.{area_fits, area_so_far, at_origin}
-use Rattle.curve_join.proofs.Cutting.{one_more}
+use Rattle.curve_join.proofs.Cuts.{one_more}
 use Rattle.curve_join.specs.Inner.Areas.{area_up_to}
 use Rattle.curve_join.specs.Join.{no_bend}
 use Rattle.curve_join.proofs.runs.areas.Goals as goal

@@ -12,7 +12,7 @@ use Rattle.curve_join.specs.Inner.Bends.{IsWorkable}
 use Rattle.curve_join.specs.declared.bend.Bend.{Bend}
 use Rattle.curve_join.proofs.search.best_from.Goals as goal
 
--- there are no more runs left than pieces
+-- there are at most as many runs left as pieces
 pub way_by-best-requires-clause-few : goal.way_by-best-requires-clause-few
 way_by-best-requires-clause-few c =
     let runs = c.args.runs.now in
@@ -21,7 +21,7 @@ way_by-best-requires-clause-few c =
     let fewest = c.requires.fewest next (omega arith) (omega (arith, c.requires.from)) in
     omega (arith, runs.most, fewest_below (length bends) (MayBeOne runs.tol bends) next (slice_index c.args.counts.now next) fewest)
 
--- the nearest piece is the best way on if there is no other
+-- the way by the nearest piece is the best one if there is no other
 pub loop-to-init : goal.loop-to-init
 loop-to-init c =
     let runs = c.args.runs.now in
@@ -62,7 +62,7 @@ way_by-requires-clause-few c =
     let fewest = c.requires.fewest to (omega arith) (omega (arith, last.within)) in
     omega (arith, runs.most, fewest_below (length bends) (MayBeOne runs.tol bends) to (slice_index c.args.counts.now to) fewest)
 
--- and they cost less than 2^88
+-- the ways cost less than 2^88
 pub better-best-requires-clause-small : goal.better-best-requires-clause-small
 better-best-requires-clause-small c =
     let runs = c.args.runs.now in

@@ -13,7 +13,7 @@ not_single i j onwards = λ e. omega arith
 pub joined_round-requires-clause-round : goal.joined_round-requires-clause-round
 joined_round-requires-clause-round c = rw c.run.ensures c.requires.round
 
--- what comes behind without the penalty does so with it
+-- a way that isn't better without its penalty isn't better with it
 behind_paid : (best way : WayOn) (penalty : ℕ) → IsNotBehind best way → IsNotBehind best (paid penalty way)
 behind_paid best way penalty is = record {
   count = is.count;
@@ -30,7 +30,7 @@ paid_same way n m e = subst (λ k. IsNotBehind (paid n way) (paid k way)) e (no_
 pub returns-then-not-is_before-clause-run : goal.returns-then-not-is_before-clause-run
 returns-then-not-is_before-clause-run c = λ may. behind_paid c.args.best c.args.way _ (c.if-not-is_before.ensures.not refl)
 
--- what is refused for its penalty comes behind
+-- a way that was ruled out for its penalty isn't better
 above : (n m : ℕ) → ¬ (n ≤ m) → m < n
 above n m not = elim (cases_lt m n) [ inl more ↦ more | inr few ↦ absurd (not few) ]
 

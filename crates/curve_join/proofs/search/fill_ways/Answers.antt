@@ -11,7 +11,7 @@ use Rattle.curve_join.specs.declared.bend.Bend.{Bend}
 use Rattle.curve_join.specs.declared.room.JoinedRun.{JoinedRun}
 use Rattle.curve_join.proofs.search.fill_ways.Goals as goal
 
--- one more run
+-- the list with one more run
 run_more : (bends : List Bend) (i : ℕ) (runs : List JoinedRun) (run : JoinedRun) → AreJoinedRuns bends runs → IsJoinedRun bends i run → AreJoinedRuns bends (set runs i run)
 run_more bends i runs run so_far one k d within =
     let all = length-set runs i run in
@@ -22,7 +22,7 @@ run_more bends i runs run so_far one k d within =
       | inr there ↦ subst (IsJoinedRun bends k) (sym (get_or-set_other runs i k run d (λ e. there (sym e)))) (so_far k d (omega arith))
     ]
 
--- from the end on no run is left, and nothing to pay
+-- at the end of the outline no run is left, and there is nothing to pay
 pub loop-from-init : goal.loop-from-init
 loop-from-init c =
     let runs = c.args.runs.now in

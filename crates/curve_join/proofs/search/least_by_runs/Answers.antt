@@ -11,7 +11,7 @@ use Rattle.curve_join.proofs.search.least_by_runs.Goals as goal
 whole : {X : Type 0} (written rest : List X) (len : ℕ) → len ≡ length written → take len (written ++ rest) ≡ written
 whole written rest len all = ap (λ n. take n (written ++ rest)) all ∙ take-append_seam written rest
 
--- the lists have a place for each piece, and one more
+-- the lists have an entry for each piece, and one more
 one_more : (held len places pieces : ℕ) → held ≡ len → len ≡ places + 1 → places ≡ pieces → held ≡ pieces + 1
 one_more held len places pieces e f g = e ∙ f ∙ ap (λ n. n + 1) g
 

@@ -1,4 +1,4 @@
-use Rattle.curve_join.proofs.Fitting.{within_far}
+use Rattle.curve_join.proofs.Widths.{within_far}
 use Rattle.curve_join.proofs.Meetings.{way_within}
 use Rattle.curve_join.proofs.vector.short_way.Goals as goal
 

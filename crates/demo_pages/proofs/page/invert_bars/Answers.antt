@@ -1,5 +1,5 @@
 use Rattle.std.proofs.Common.{refl, ◌∙◌}
-use Rattle.demo_pages.proofs.Drawing.{as_many_more, no_draw, no_bar, one_bar}
+use Rattle.demo_pages.proofs.Draws.{as_many_more, no_draw, no_bar, one_bar}
 use Rattle.bit_image.specs.Page.{image_of}
 use Rattle.demo_pages.proofs.page.invert_bars.Goals as goal
 

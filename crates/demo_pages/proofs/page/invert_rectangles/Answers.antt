@@ -1,5 +1,5 @@
 use Rattle.std.proofs.Common.{refl, ◌∙◌}
-use Rattle.demo_pages.proofs.Drawing.{as_many_more, no_draw, no_rectangle, one_rectangle}
+use Rattle.demo_pages.proofs.Draws.{as_many_more, no_draw, no_rectangle, one_rectangle}
 use Rattle.bit_image.specs.Page.{image_of}
 use Rattle.demo_pages.proofs.page.invert_rectangles.Goals as goal
 

@@ -1,6 +1,6 @@
 use Rattle.std.proofs.Common.{ap, ◌∙◌}
 use Rattle.demo_pages.specs.Generator.{state_after}
-use Rattle.demo_pages.proofs.Drawing.{is_picture, state_after-state_after}
+use Rattle.demo_pages.proofs.Draws.{is_picture, state_after-state_after}
 use Rattle.demo_pages.proofs.page.next_page.Goals as goal
 
 pub returns-clause-page : goal.returns-clause-page

@@ -1,7 +1,7 @@
 use Rattle.std.proofs.Common.{◌+◌, ◌-◌, arith}
 use Rattle.std.proofs.lemmas.List.{length_push}
 use Rattle.demo_pages.specs.Picture.{pages_from}
-use Rattle.demo_pages.proofs.Drawing.{one_page}
+use Rattle.demo_pages.proofs.Draws.{one_page}
 use Rattle.demo_pages.proofs.page.next_pages.Goals as goal
 
 pub loop-made-preserved : goal.loop-made-preserved

@@ -5,7 +5,7 @@ use Rattle.pt_core.specs.declared.point.Point.{Point}
 use Rattle.dxf_geojson.specs.Chords.{piece_points, points_from}
 use Rattle.dxf_geojson.proofs.chords.add_points.Goals as goal
 
--- one more piece, from which the next one goes on
+-- after one more piece, the next one begins at its end
 one_further : (pieces : List Piece) (k : ℕ) (points now text : List Point) (from end : Point) (d : Piece) → k < length pieces
     → now ≡ points ++ piece_points from (get_or pieces k d) → end ≡ end_of (get_or pieces k d)
     → points ++ points_from from (drop k pieces) ≡ text → now ++ points_from end (drop (k + 1) pieces) ≡ text

@@ -2,7 +2,7 @@ use Rattle.std.proofs.Common.{◌≡◌, ℕ, ◌+◌, List, ◌++◌, OnOk, opt
 use Rattle.run_output.specs.declared.part.Binding.TheVariants.{Together}
 use Rattle.page_batches.specs.Inner.Held.{end_held, end_notes}
 use Rattle.run_output.specs.Names.{document_name, next_name}
-use Rattle.run_output.proofs.Naming.{next_name-made_with}
+use Rattle.run_output.proofs.NameCounts.{next_name-made_with}
 use Rattle.page_batches.proofs.Holding.{more_is_held}
 use Rattle.file_documents.proofs.file.push_end.Goals as goal
 

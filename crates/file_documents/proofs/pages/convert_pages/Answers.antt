@@ -1,6 +1,6 @@
 use Rattle.std.proofs.Common.{◌≡◌, suc, ◌+◌, ◌*◌, ◌∙◌, true, false, ap, refl, sym, arith}
 use Rattle.run_output.specs.Made.{documents_before}
-use Rattle.run_output.proofs.Naming.{next_name-made_with}
+use Rattle.run_output.proofs.NameCounts.{next_name-made_with}
 use Rattle.page_batches.proofs.Counts.{same_count}
 use Rattle.page_batches.proofs.Desks.{keeps_on}
 use Rattle.run_output.specs.Told.{source_of}

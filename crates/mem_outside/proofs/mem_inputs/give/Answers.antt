@@ -1,6 +1,6 @@
 use Rattle.std.proofs.Common.{◌≡◌, ◌-◌, ◌∙◌, ap, sym, length, drop, take, min, length-drop, arith}
 use Rattle.mem_outside.specs.MemInputs.{bytes_at}
-use Rattle.mem_outside.proofs.Finding.{bytes_at-place, given, opened_at-place}
+use Rattle.mem_outside.proofs.FirstFiles.{bytes_at-place, given, opened_at-place}
 use Rattle.mem_outside.proofs.mem_inputs.give.Goals as goal
 
 pub copy_from-requires-clause-within : goal.copy_from-requires-clause-within

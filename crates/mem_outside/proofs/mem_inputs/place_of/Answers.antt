@@ -1,7 +1,7 @@
 use Rattle.std.proofs.Common.{◌≡◌, ◌∙◌, ap, is_some, sym, true, false}
 use Rattle.std.specs.Str.{bytes_eq}
 use Rattle.mem_outside.specs.MemInputs.{name_of}
-use Rattle.mem_outside.proofs.Finding.{found_here, found_none, found_on, opened_here}
+use Rattle.mem_outside.proofs.FirstFiles.{found_here, found_none, found_on, opened_here}
 use Rattle.mem_outside.proofs.mem_inputs.place_of.Goals as goal
 
 pub returns-then-eq-clause-some : goal.returns-then-eq-clause-some

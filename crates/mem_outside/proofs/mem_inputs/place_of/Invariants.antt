@@ -1,7 +1,7 @@
 use Rattle.std.proofs.Common.{◌≡◌, drop}
-use Rattle.mem_outside.proofs.Finding.{found}
+use Rattle.mem_outside.proofs.FirstFiles.{found}
 use Rattle.mem_outside.proofs.mem_inputs.place_of.Given as goal
 
--- the name isn't among the files so far
+-- no file before the current one has the name
 abbrev pub invariant-loop-i : goal.invariant-loop-i
 invariant-loop-i l = found l.name (drop l.i l.files) ≡ found l.name l.files

@@ -2,7 +2,7 @@ use Rattle.std.proofs.Common.{◌+◌, ◌-◌, ◌*◌, ◌≤◌, get_or, arit
 use Rattle.std.proofs.lemmas.Nat.{mul-le}
 use Rattle.mkbitmap.specs.Box.{sum_between}
 use Rattle.mkbitmap.specs.declared.limits.TheConstants.{GREATEST_RADIUS, GREATEST_SUM}
-use Rattle.mkbitmap.proofs.Adding.{sum-most, sum-grown}
+use Rattle.mkbitmap.proofs.BoxSums.{sum-most, sum-grown}
 use Rattle.mkbitmap.proofs.relief.first_sum.Goals as goal
 
 pub with_column-sum-requires : goal.with_column-sum-requires

@@ -2,8 +2,8 @@ use Rattle.std.proofs.Common.{rules, ◌≡◌, ◌+◌, ◌-◌, ◌*◌, ◌�
 use Rattle.std.proofs.lemmas.List.{get_or_past}
 use Rattle.mkbitmap.specs.Box.{sum_between, box_from, box_end, box_count}
 use Rattle.mkbitmap.specs.Relief.{raised_by}
-use Rattle.mkbitmap.proofs.Adding.{sum-most, sum-past}
-use Rattle.mkbitmap.proofs.Filling.{filled_next}
+use Rattle.mkbitmap.proofs.BoxSums.{sum-most, sum-past}
+use Rattle.mkbitmap.proofs.FilledLists.{filled_next}
 use Rattle.mkbitmap.proofs.relief.raise_row.Goals as goal
 
 pub raised-requires-clause-sum : goal.raised-requires-clause-sum

@@ -1,4 +1,4 @@
-use Rattle.mkbitmap_words.proofs.Asking.{asked_can}
+use Rattle.mkbitmap_words.proofs.FilterAsks.{asked_can}
 use Rattle.mkbitmap_run.proofs.Whole.{page_is_written}
 use Rattle.mkbitmap_run.proofs.laws.whole_results_show_their_pages.Goals as goal
 

@@ -2,8 +2,8 @@ use Rattle.std.proofs.Common.{ℕ, Err, refl, ap, subst}
 use Rattle.bitmap_input.specs.Inner.Reading.{CountsBy}
 use Rattle.bitmap_input.specs.Reading.{cause_of_fault}
 use Rattle.run_output.specs.Told.{source_of}
-use Rattle.small_program.proofs.Taking.{nothing_taken}
-use Rattle.mkbitmap_run.proofs.Heading.{header_stands, not_opened, run_at_head, run_out_of_memory, run_unopened}
+use Rattle.small_program.proofs.TakenInput.{nothing_taken}
+use Rattle.mkbitmap_run.proofs.HeaderEndings.{header_stands, not_opened, run_at_head, run_out_of_memory, run_unopened}
 use Rattle.mkbitmap_run.proofs.page.filter_input.Goals as goal
 
 -- standard input can't be opened
@@ -20,7 +20,7 @@ returns-in_default g c =
     (run_out_of_memory c.args.setup (source_of g.I.Inputs c.args.inputs.now) (source_of g.I.Inputs c.open.new.self) _ _ c.open.ensures.one_more c.in-Ok.ensures.steady
     (λ lacks. let never = c.in-Ok.ensures.absent.1 lacks in cc) (record { same = refl; same_open = refl; says = c.say_out_of_memory.ensures.says }))
 
--- the head was read
+-- the header was read
 pub returns-in-Ok-read_head : goal.returns-in-Ok-read_head
 returns-in-Ok-read_head g c =
     c.filter_page.ensures (source_of g.I.Inputs c.args.inputs.now)
@@ -28,7 +28,7 @@ returns-in-Ok-read_head g c =
     c.open.ensures.one_more c.in-Ok.ensures.steady (nothing_taken _ _ c.in-Ok.ensures.file (λ lacks. let never = c.in-Ok.ensures.absent.1 lacks in cc)) c.read_head.ensures.stays
     c.in-Ok-read_head.ensures.reads c.in-Ok-read_head.ensures.gives)
 
--- it isn't there
+-- the header couldn't be read
 pub returns-in-Err-read_head : goal.returns-in-Err-read_head
 returns-in-Err-read_head g c =
     rw c.say_fault.ensures.ending

@@ -5,11 +5,11 @@ use Rattle.run_output.specs.Told.{source_of}
 use Rattle.mkbitmap_run.specs.declared.fault.Break.TheVariants as breaks
 use Rattle.mkbitmap_run.specs.Inner.FilterWork.{MayRead}
 use Rattle.mkbitmap_run.specs.Rows.{fits_result}
-use Rattle.mkbitmap_run.proofs.Heading.{run_at_row, run_out_of_memory, run_too_large, there_behind_head}
-use Rattle.mkbitmap_run.proofs.Running.{run_done, run_unwritten, runs_page, with_setup}
+use Rattle.mkbitmap_run.proofs.HeaderEndings.{run_at_row, run_out_of_memory, run_too_large, there_behind_head}
+use Rattle.mkbitmap_run.proofs.PageEndings.{run_done, run_unwritten, runs_page, with_setup}
 use Rattle.mkbitmap_run.proofs.page.filter_page.Goals as goal
 
--- the page can be put
+-- writing the page can begin
 pub put_page-requires-clause-begins : goal.put_page-requires-clause-begins
 put_page-requires-clause-begins g c = record {
   reading = subst (λ (r : GraySource). MayRead r (source_of g.I.Inputs c.args.inputs.now)) (sym c.in-Ok.ensures.same_reader) c.requires.reading;
@@ -41,7 +41,7 @@ returns-in-Ok-put_page g c = λ source stands.
     (run_done _ source _ p _ _ puts.rows puts.gives puts.all steady
     (record { documents = puts.documents; closed = c.in-Ok-put_page.ensures.open; went = went; silent = refl }))
 
--- a row of the page isn't there
+-- a row of the page couldn't be read
 pub returns-in-Err-Input : goal.returns-in-Err-Input
 returns-in-Err-Input g c = λ source stands.
     let begins = c.in-Ok.ensures in

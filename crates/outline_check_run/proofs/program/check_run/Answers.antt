@@ -1,7 +1,7 @@
 use Rattle.std.proofs.Common.{sym, ◌∙◌, codes}
 use Rattle.run_output.specs.Told.{sinks_of, source_of}
 use Rattle.outline_check_run.proofs.Checked.{best_where_done}
-use Rattle.outline_check_run.proofs.Rechecking.{found_right}
+use Rattle.outline_check_run.proofs.RightTexts.{found_right}
 use Rattle.outline_check_run.proofs.program.check_run.Goals as goal
 
 pub returns-clause-best : goal.returns-clause-best

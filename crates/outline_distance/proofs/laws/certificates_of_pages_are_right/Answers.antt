@@ -1,5 +1,5 @@
 use Rattle.std.proofs.Common.{codes, refl}
-use Rattle.outline_check_run.proofs.Rechecking.{found_right}
+use Rattle.outline_check_run.proofs.RightTexts.{found_right}
 use Rattle.outline_distance.proofs.Certifying.{right_page}
 use Rattle.outline_distance.proofs.laws.certificates_of_pages_are_right.Goals as goal
 

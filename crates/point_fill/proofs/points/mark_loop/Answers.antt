@@ -6,22 +6,22 @@ use Rattle.bit_image.specs.Page.{Page, SameSides}
 use Rattle.list_reader.specs.Inner.LineEntries.{IsEntry}
 use Rattle.list_reader.specs.PagePoints.{IsInPage}
 use Rattle.list_reader.proofs.NoResult.{if_none}
-use Rattle.point_fill.proofs.Looping.{first_read, next_read, loop_read, last_is_corner, no_loop_without_first, no_loop_without_point, no_loop_by_step, no_loop_of_few, no_loop_open}
-use Rattle.point_fill.proofs.Spelling.{corner_of}
+use Rattle.point_fill.proofs.LoopPoints.{first_read, next_read, loop_read, last_is_corner, no_loop_without_first, no_loop_without_point, no_loop_by_step, no_loop_of_few, no_loop_open}
+use Rattle.point_fill.proofs.UniqueReading.{corner_of}
 use Rattle.point_fill.proofs.points.mark_loop.Goals as goal
 
--- a point of a page of these sides, and none
+-- a point on a page of these sides, and no such point
 abbrev PointAt : List ℕ → Point → List ℕ → ℕ → ℕ → Type 0
 PointAt bytes p rest w h = IsEntry point_text (IsInPage w h) bytes p rest
 
 abbrev NoPoint : List ℕ → ℕ → ℕ → Type 0
 NoPoint bytes w h = (p : Point) (rest : List ℕ) → PointAt bytes p rest w h → ⊥
 
--- what holds at the sides that were asked for holds at the page's
+-- a fact for the sides that the code asked for holds for the sides of the page
 at_sides : (P : ℕ → ℕ → Type 0) (w h width height : ℕ) → width ≡ w → height ≡ h → P width height → P w h
 at_sides P w h width height ew eh p = subst (λ k. P k h) ew (subst (λ k. P width k) eh p)
 
--- and at those of the page as it became
+-- a fact for the sides of the old page holds for the sides of the new one
 at_same : (P : ℕ → ℕ → Type 0) (old now : Page) → SameSides old now → P old.width old.height → P now.width now.height
 at_same P old now same p = at_sides P now.width now.height old.width old.height (sym same.width) (sym same.height) p
 

@@ -1,7 +1,7 @@
 use Rattle.std.proofs.Common.{◌∙◌, ap}
 use Rattle.clap.specs.Simple.{app_of, with_rule}
 use Rattle.clap.specs.Walk.{Rule}
-use Rattle.potrace_options.proofs.Adding.{with_next_row}
+use Rattle.potrace_options.proofs.OneMoreOption.{with_next_row}
 use Rattle.potrace_options.proofs.command.with_options.Goals as goal
 
 -- the rule of the next row is added

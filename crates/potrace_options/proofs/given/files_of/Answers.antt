@@ -8,7 +8,7 @@ use Rattle.potrace_options.proofs.given.files_of.Goals as goal
 abbrev listed : Option (List (List ℕ)) → List (List ℕ)
 listed values = unwrap_or values []
 
--- the files stand in the rows that were found
+-- the files are in the rows that were found
 pub returns-in-Some : goal.returns-in-Some
 returns-in-Some c =
     let found = c.in-Some.ensures ∙ raw_values-rows (found_of c.args.matches.now) (codes "file") in

@@ -3,7 +3,7 @@ use Rattle.std.specs.Path.{rfind_below}
 use Rattle.run_output.specs.Names.{last_place}
 use Rattle.run_output.proofs.names.last_place.Given as goal
 
--- behind the end no such byte stands
+-- the byte isn't at or after `end`
 abbrev pub invariant-loop-end : goal.invariant-loop-end
 invariant-loop-end l = record {
   within : l.end ≤ length l.name;

@@ -1,6 +1,6 @@
 use Rattle.std.proofs.Common.{List, ℕ, Bor, ◌∙◌}
 use Rattle.pt_core.proofs.AppendedTexts.{on_err}
-use Rattle.run_output.proofs.Saying.{piece_cut, piece_said}
+use Rattle.run_output.proofs.PieceRuns.{piece_cut, piece_said}
 use Rattle.run_output.proofs.pieces.write_pieces.Goals as goal
 
 pub loop-piece-preserved : goal.loop-piece-preserved

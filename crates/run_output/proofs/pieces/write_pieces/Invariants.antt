@@ -3,7 +3,7 @@ use Rattle.std.specs.List.{concat}
 use Rattle.pt_core.specs.Documents.{with_bytes}
 use Rattle.run_output.proofs.pieces.write_pieces.Given as goal
 
--- the pieces so far are written
+-- all pieces before the current one are written
 abbrev pub invariant-loop-piece : goal.invariant-loop-piece
 invariant-loop-piece g l =
     let sink = g.S.Sink in

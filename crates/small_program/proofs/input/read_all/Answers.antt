@@ -1,8 +1,8 @@
 use Rattle.std.proofs.Common.{arith}
-use Rattle.small_program.proofs.Taking.{input_of_taken, nothing_taken}
+use Rattle.small_program.proofs.TakenInput.{input_of_taken, nothing_taken}
 use Rattle.small_program.proofs.input.read_all.Goals as goal
 
--- what was taken is more than a program takes, and so is the whole
+-- if the bytes that were read are more than a program takes, so is the whole input
 pub returns-in-Ok-clause-too_long : goal.returns-in-Ok-clause-too_long
 returns-in-Ok-clause-too_long g c = λ is.
     let files = g.I.Inputs.files c.args.inputs.now in

@@ -4,7 +4,7 @@ use Rattle.small_program.specs.Input.{HasTaken}
 use Rattle.small_program.specs.declared.input.TheConstants.{MOST_BYTES}
 use Rattle.small_program.proofs.input.read_on.Given as goal
 
--- the pieces so far were taken
+-- all bytes read before are in the list
 abbrev pub invariant-pieces : goal.invariant-pieces
 invariant-pieces g l =
     let inputs = g.I.Inputs in

@@ -1,8 +1,8 @@
 use Rattle.std.proofs.Common.{◌≡◌, refl, length, rules}
-use Rattle.small_program.proofs.Running.{run_replied, run_stopped}
+use Rattle.small_program.proofs.Endings.{run_replied, run_stopped}
 use Rattle.small_program.proofs.program.run.Goals as goal
 
--- standard input isn't there whole
+-- standard input couldn't be read to its end
 pub returns-in-Err : goal.returns-in-Err
 returns-in-Err g c =
     let none : length c.args.words.now ≡ 0 = search rules in
@@ -16,7 +16,7 @@ returns-in-Err g c =
       steady = c.in-Err.ensures.steady_stop;
     }) (record { same = refl; same_open = refl; says = c.say_stop.ensures.says }))
 
--- it has a reply
+-- there is a reply
 pub returns-in-Ok-reply : goal.returns-in-Ok-reply
 returns-in-Ok-reply g c =
     let none : length c.args.words.now ≡ 0 = search rules in

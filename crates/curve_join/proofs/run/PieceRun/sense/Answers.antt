@@ -1,5 +1,5 @@
 use Rattle.std.proofs.Common.{arith}
-use Rattle.curve_join.proofs.Joining.{sense_back}
+use Rattle.curve_join.proofs.JoinedRuns.{sense_back}
 use Rattle.curve_join.proofs.run.PieceRun.sense.Goals as goal
 
 pub bounds-self-0 : goal.bounds-self-0

@@ -2,14 +2,14 @@ use Rattle.std.proofs.Common.{◌≡◌, ◌-◌, pos, ◌*ℤ◌, get_or, ap, �
 use Rattle.std.proofs.lemmas.List.{get_or_read}
 use Rattle.pt_core.specs.ClosedWalk.{origin}
 use Rattle.curve_join.proofs.Areas.{area_fits_too, area_read, area_worked, areas_length, between_fits}
-use Rattle.curve_join.proofs.Fitting.{back}
-use Rattle.curve_join.proofs.Joining.{crosses}
+use Rattle.curve_join.proofs.Widths.{back}
+use Rattle.curve_join.proofs.JoinedRuns.{crosses}
 use Rattle.curve_join.specs.Inner.Areas.{area_up_to}
 use Rattle.curve_join.specs.Join.{no_bend}
 use Rattle.curve_join.specs.Vector.{vector_cross, way_of}
 use Rattle.curve_join.proofs.runs.Runs.area.Goals as goal
 
--- what is looked up, and ten times the triangle of the origin and the chord
+-- two prefix sums, and ten times the triangle of the origin and the chord
 module _ (c : goal.After-times) where
   upper_is : c.index-3.result.now ≡ area_up_to c.args.self.now.bends.items c.args.to
   upper_is = area_read c.args.self.now.bends.items c.args.self.now.areas.items c.args.self.now.summed c.args.to c.requires.within c.index-3.result.now c.index-3.ensures

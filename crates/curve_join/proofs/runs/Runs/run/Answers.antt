@@ -1,8 +1,8 @@
 use Rattle.std.proofs.Common.{◌≡◌, ◌≤◌, length, sym, ap, ◌∙◌, arith}
 use Rattle.std.specs.List.{All, slice_range}
 use Rattle.curve_join.proofs.Areas.{area_small}
-use Rattle.curve_join.proofs.Cutting.{slice_length, slice_small}
-use Rattle.curve_join.proofs.Fitting.{long_back}
+use Rattle.curve_join.proofs.Cuts.{slice_length, slice_small}
+use Rattle.curve_join.proofs.Widths.{long_back}
 use Rattle.curve_join.specs.Inner.Bends.{IsWorkable}
 use Rattle.curve_join.specs.Join.{area_at}
 use Rattle.curve_join.proofs.runs.Runs.run.Goals as goal

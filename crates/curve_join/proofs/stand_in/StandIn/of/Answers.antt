@@ -1,7 +1,7 @@
 use Rattle.std.proofs.Common.{◌^◌}
 use Rattle.curve_join.proofs.Horner.{powers_back}
 use Rattle.curve_join.proofs.Meetings.{wide_way, wide_way_back}
-use Rattle.curve_join.proofs.Mixing.{short_size}
+use Rattle.curve_join.proofs.WeightedSums.{short_size}
 use Rattle.curve_join.specs.Vector.{GoesNoFarther}
 use Rattle.curve_join.proofs.stand_in.StandIn.of.Goals as goal
 

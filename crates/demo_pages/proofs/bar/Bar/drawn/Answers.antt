@@ -1,4 +1,4 @@
-use Rattle.demo_pages.proofs.Drawing.{no_draw, one_draw}
+use Rattle.demo_pages.proofs.Draws.{no_draw, one_draw}
 use Rattle.demo_pages.proofs.bar.Bar.drawn.Goals as goal
 
 pub returns-clause-bar : goal.returns-clause-bar

@@ -1,4 +1,4 @@
-use Rattle.mem_outside.proofs.Finding.{IfSome-opened_of, opened_of-on}
+use Rattle.mem_outside.proofs.FirstFiles.{IfSome-opened_of, opened_of-on}
 use Rattle.mem_outside.proofs.mem_inputs.MemInputsInputs.read.Goals as goal
 
 pub returns-clause-ok : goal.returns-clause-ok

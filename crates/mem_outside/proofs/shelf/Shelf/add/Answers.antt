@@ -1,6 +1,6 @@
 use Rattle.std.proofs.Common.{◌≡◌, true, is_some}
 use Rattle.mem_outside.specs.Shelf.{open_at}
-use Rattle.mem_outside.proofs.Shelving.{shelf_of-add}
+use Rattle.mem_outside.proofs.ShelfBytes.{shelf_of-add}
 use Rattle.mem_outside.proofs.shelf.Shelf.add.Goals as goal
 
 pub returns : goal.returns

@@ -1,6 +1,6 @@
 use Rattle.std.proofs.Common.{◌≡◌, ◌++◌, ◌∙◌, None, ap, length, arith}
 use Rattle.mem_outside.specs.Shelf.{open_at}
-use Rattle.mem_outside.proofs.Shelving.{shelf_of-begin}
+use Rattle.mem_outside.proofs.ShelfBytes.{shelf_of-begin}
 use Rattle.mem_outside.proofs.shelf.Shelf.begin.Goals as goal
 
 pub returns : goal.returns

@@ -1,6 +1,6 @@
 use Rattle.std.proofs.Common.{rules, ◌≡◌, ◌+◌, ◌-◌, arith, ◌∙◌}
 use Rattle.mkbitmap.specs.Enlarged.{before_within}
-use Rattle.mkbitmap.proofs.Following.{carried, same_twice}
+use Rattle.mkbitmap.proofs.RingRows.{carried, same_twice}
 use Rattle.mkbitmap.proofs.filter.Filter.begin.Goals as goal
 
 pub returns : goal.returns

@@ -10,9 +10,9 @@ use Rattle.mkbitmap.specs.Inner.Enlarged.{dark}
 use Rattle.mkbitmap.specs.Inner.Layout.{filtering_of}
 use Rattle.mkbitmap.specs.Packing.{padded}
 use Rattle.mkbitmap.proofs.Bytes.{length-row_text}
-use Rattle.mkbitmap.proofs.Lifting.{black-is}
-use Rattle.mkbitmap.proofs.Placing.{after-within}
-use Rattle.mkbitmap.proofs.Enlarging.{column_is, dark_is, packed_same}
+use Rattle.mkbitmap.proofs.RaisedReliefs.{black-is}
+use Rattle.mkbitmap.proofs.PixelPlaces.{after-within}
+use Rattle.mkbitmap.proofs.LargerRows.{column_is, dark_is, packed_same}
 use Rattle.mkbitmap.proofs.filter.Filter.enlarge.Goals as goal
 
 pub overflow_cast-self-inside : goal.overflow_cast-self-inside

@@ -4,7 +4,7 @@ use Rattle.mkbitmap.specs.Filtering.{Filtering}
 use Rattle.mkbitmap.specs.Follows.{AreRaised, Follows}
 use Rattle.mkbitmap.specs.Relief.{raised_of}
 use Rattle.mkbitmap.specs.Inner.Layout.{filtering_of, first_held}
-use Rattle.mkbitmap.proofs.Following.{holds_of, ring_of}
+use Rattle.mkbitmap.proofs.RingRows.{holds_of, ring_of}
 use Rattle.mkbitmap.proofs.filter.Filter.finish.Goals as goal
 
 pub returns : goal.returns

@@ -5,7 +5,7 @@ use Rattle.std.proofs.lemmas.List.{with_items_is, get_or_past}
 use Rattle.mkbitmap.specs.Filtering.{Filtering}
 use Rattle.mkbitmap.specs.Follows.{HoldsRows}
 use Rattle.mkbitmap.specs.Inner.Layout.{held_row}
-use Rattle.mkbitmap.proofs.Following.{first_goes, holds_of, ring_of, slot_is}
+use Rattle.mkbitmap.proofs.RingRows.{first_goes, holds_of, ring_of, slot_is}
 use Rattle.mkbitmap.proofs.filter.Filter.let_go.Goals as goal
 
 pub leave-requires-clause-within : goal.leave-requires-clause-within

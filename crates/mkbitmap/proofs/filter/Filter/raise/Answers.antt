@@ -5,8 +5,8 @@ use Rattle.mkbitmap.specs.Relief.{raised_of}
 use Rattle.mkbitmap.specs.Filtering.{Filtering}
 use Rattle.mkbitmap.specs.Follows.{HoldsRows}
 use Rattle.mkbitmap.specs.Inner.Layout.{first_held, filtering_of, held_row}
-use Rattle.mkbitmap.proofs.Enlarging.{row_most}
-use Rattle.mkbitmap.proofs.Following.{held_page, holds_itself, ring_of, row_raised, slot_is, sums_small}
+use Rattle.mkbitmap.proofs.LargerRows.{row_most}
+use Rattle.mkbitmap.proofs.RingRows.{held_page, holds_itself, ring_of, row_raised, slot_is, sums_small}
 use Rattle.mkbitmap.proofs.filter.Filter.raise.Goals as goal
 
 pub raise_row-requires-clause-samples : goal.raise_row-requires-clause-samples

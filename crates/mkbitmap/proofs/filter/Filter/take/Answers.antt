@@ -6,7 +6,7 @@ use Rattle.mkbitmap.specs.Filtering.{Filtering}
 use Rattle.mkbitmap.specs.Follows.{Follows, IsRow}
 use Rattle.mkbitmap.specs.Inner.Layout.{first_held, filtering_of}
 use Rattle.mkbitmap.specs.declared.limits.TheConstants.{GREATEST_MAXVAL, LONGEST_BOX}
-use Rattle.mkbitmap.proofs.Following.{has_slot, holds_of, ring_of, rows_next, slot_is, slot_next, sums_next, sums_small}
+use Rattle.mkbitmap.proofs.RingRows.{has_slot, holds_of, ring_of, rows_next, slot_is, slot_next, sums_next, sums_small}
 use Rattle.mkbitmap.proofs.filter.Filter.take.Goals as goal
 
 pub keep-requires-clause-small : goal.keep-requires-clause-small

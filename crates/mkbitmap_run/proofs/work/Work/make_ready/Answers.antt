@@ -3,15 +3,15 @@ use Rattle.std.proofs.lemmas.List.{with_items_is}
 use Rattle.mkbitmap.specs.Enlarged.{after_of}
 use Rattle.mkbitmap.specs.Follows.{IsRow}
 use Rattle.mkbitmap.proofs.Order.{after-ends}
-use Rattle.mkbitmap_run.proofs.Giving.{stops_row}
-use Rattle.mkbitmap_run.proofs.Working.{along_none, along_on, along_step, along_taken, along_then, can_still, ge_of, is_less, lt_of, one_needed, one_there, same_need}
+use Rattle.mkbitmap_run.proofs.GivenRows.{stops_row}
+use Rattle.mkbitmap_run.proofs.PageWork.{along_none, along_on, along_step, along_taken, along_then, can_still, ge_of, is_less, lt_of, one_needed, one_there, same_need}
 use Rattle.mkbitmap_run.proofs.work.Work.make_ready.Goals as goal
 
 -- no row was read yet
 pub rows-init : goal.rows-init
 rows-init g c = record { can = c.requires; steady = refl; openings = refl; next = []; along = along_none _ _ }
 
--- one row more was read and taken
+-- one more row was read and taken
 pub rows-preserved-in-Ok : goal.rows-preserved-in-Ok
 rows-preserved-in-Ok g c =
     let held = c.rows.invariant in
@@ -35,7 +35,7 @@ rows-preserved-in-Ok g c =
       along = along_on _ _ _ _ _ _ held.next (gives.values ∷ []) held.along along;
     }
 
--- behind the rows so far the next one isn't there
+-- after the rows read until now, the next one couldn't be read
 pub returns-in-Err-clause-stops : goal.returns-in-Err-clause-stops
 returns-in-Err-clause-stops g c =
     let held = c.rows.invariant in
@@ -64,7 +64,7 @@ step-requires-clause-due g c =
     let ends = after-ends work.reader.head.height work.filter.times c.args.y can.at_work.fits.some_times can.row in
     omega (arith, less, ends, can.at_work.fits.height)
 
--- it went on by a row
+-- the filter made a step
 pub rows-preserved : goal.rows-preserved
 rows-preserved g c =
     let held = c.rows.invariant in

@@ -4,7 +4,7 @@ use Rattle.run_output.specs.Told.{source_of}
 use Rattle.mkbitmap_run.specs.Inner.FilterWork.{CanPut, GoesAlong}
 use Rattle.mkbitmap_run.proofs.work.Work.make_ready.Given as goal
 
--- some rows more were gone along, and the row of the result can still be put
+-- some further rows were read, and the row of the result can still be written
 abbrev pub invariant-rows : goal.invariant-rows
 invariant-rows g l =
     let inputs = g.I.Inputs in

@@ -2,10 +2,10 @@ use Rattle.std.proofs.Common.{◌≡◌, ℕ, List, ◌++◌, ◌*◌, ◌≤◌
 use Rattle.bit_image.specs.PbmText.{pbm_head}
 use Rattle.bitmap_input.specs.declared.gray_reader.GrayHead.{GrayHead}
 use Rattle.mkbitmap_run.specs.Inner.FilterWork.{IsGrayHead, setup_of}
-use Rattle.mkbitmap_run.proofs.Working.{work_start}
+use Rattle.mkbitmap_run.proofs.PageWork.{work_start}
 use Rattle.mkbitmap_run.proofs.work.Work.new.Goals as goal
 
--- both are before the first row
+-- the reader and the filter are before the first row
 pub returns : goal.returns
 returns c =
     let made = c.in_ok-filter.ensures in

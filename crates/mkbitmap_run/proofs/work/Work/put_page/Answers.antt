@@ -4,17 +4,17 @@ use Rattle.run_output.specs.Names.{dash}
 use Rattle.run_output.specs.Told.{told_of}
 use Rattle.mkbitmap_run.specs.Inner.Put.{world_of}
 use Rattle.mkbitmap_run.specs.Inner.FilterWork.{header_of, setup_of}
-use Rattle.mkbitmap_run.proofs.Breaking.{ends_on, head_put, page_breaks, page_cut, page_put}
+use Rattle.mkbitmap_run.proofs.BrokenOff.{ends_on, head_put, page_breaks, page_cut, page_put}
 use Rattle.run_output.proofs.Calls.{broke_on, went_on}
-use Rattle.mkbitmap_run.proofs.Cutting.{opened_with}
-use Rattle.mkbitmap_run.proofs.Giving.{gives_none}
+use Rattle.mkbitmap_run.proofs.CutDocuments.{opened_with}
+use Rattle.mkbitmap_run.proofs.GivenRows.{gives_none}
 use Rattle.mkbitmap_run.proofs.work.Work.put_page.Goals as goal
 
--- it wasn't begun
+-- the document couldn't be begun
 pub returns-in-Err-clause-breaks : goal.returns-in-Err-clause-breaks
 returns-in-Err-clause-breaks g c = ([], gives_none _ _, inl (refl, inl c.in-Err.ensures.nothing))
 
--- its head was cut off
+-- the document's beginning was cut off
 pub returns-in-Err-write_whole-clause-breaks : goal.returns-in-Err-write_whole-clause-breaks
 returns-in-Err-write_whole-clause-breaks g c =
     let (n, most, is) = c.in-Err-write_whole.ensures.prefix in
@@ -39,7 +39,7 @@ returns-in-Err-write_whole-clause-calls g c = (
       (record { rose = c.in-Err-write_whole.ensures.cause; failed = c.in-Err-write_whole.ensures.failed }),
 )
 
--- a row broke it off
+-- writing stopped at a row
 pub returns-in-Err-put_rows-clause-breaks : goal.returns-in-Err-put_rows-clause-breaks
 returns-in-Err-put_rows-clause-breaks g c =
     page_breaks c.in-Err-put_rows.why _ _ _ _ _ c.requires.begins.start
@@ -52,7 +52,7 @@ returns-in-Err-put_rows-clause-calls g c =
     (record { steady = c.in-Ok-write_whole.ensures.steady ∙ c.in-Ok.ensures.steady; went = c.in-Ok-write_whole.ensures.went ∙ ap (λ f. f.count) c.in-Ok.ensures.went })
     c.in-Err-put_rows.ensures.calls
 
--- it is whole
+-- the document is whole
 pub returns-in-Ok-end-clause-puts : goal.returns-in-Ok-end-clause-puts
 returns-in-Ok-end-clause-puts g c =
     let puts = c.in-Ok-put_rows.ensures.puts in
@@ -65,7 +65,7 @@ returns-in-Ok-end-clause-puts g c =
           (head_put _ _ _ dash c.deref.result.now _ c.in-Ok.ensures.opened c.in-Ok-write_whole.ensures.appended (c.deref.ensures.value ∙ c.requires.begins.start.head)) puts.puts c.in-Ok-end.ensures.ended;
     }
 
--- its end failed
+-- ending the document failed
 pub returns-in-Err-end-clause-breaks : goal.returns-in-Err-end-clause-breaks
 returns-in-Err-end-clause-breaks g c =
     let puts = c.in-Ok-put_rows.ensures.puts in

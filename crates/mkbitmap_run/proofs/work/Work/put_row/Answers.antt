@@ -1,6 +1,6 @@
 use Rattle.std.proofs.Common.{◌≡◌, ℕ, ◌+◌, ◌≤◌, List, length, take, ap, sym, ◌∙◌, subst, arith}
 use Rattle.pt_core.specs.Documents.{with_bytes}
-use Rattle.mkbitmap_run.proofs.Working.{along_row, along_then, row_is, same_after, same_rows}
+use Rattle.mkbitmap_run.proofs.PageWork.{along_row, along_then, row_is, same_after, same_rows}
 use Rattle.mkbitmap_run.proofs.work.Work.put_row.Goals as goal
 
 pub enlarge-requires-clause-row : goal.enlarge-requires-clause-row

@@ -1,13 +1,13 @@
 use Rattle.std.proofs.Common.{◌≡◌, ◌*◌, Err, refl, ap, ◌∙◌, arith}
 use Rattle.mkbitmap_run.specs.Inner.Put.{world_of}
-use Rattle.mkbitmap_run.proofs.Breaking.{above_none, above_too, all_put, can_put, ends_on, rows_break}
+use Rattle.mkbitmap_run.proofs.BrokenOff.{above_none, above_too, all_put, can_put, ends_on, rows_break}
 use Rattle.mkbitmap_run.proofs.work.Work.put_rows.Goals as goal
 
 -- nothing is written yet
 pub loop-y-init : goal.loop-y-init
 loop-y-init g c = record { ready = c.requires.ready; above = above_none _ _ c.requires.begins.start (record { reading = c.requires.begins.reading; openings = refl }) }
 
--- it is a row of the result
+-- y is the number of a row of the result
 pub put_row-requires-clause-can : goal.put_row-requires-clause-can
 put_row-requires-clause-can g c =
     let start = c.requires.begins.start in
@@ -21,7 +21,7 @@ loop-y-preserved g c = record {
   above = above_too c.loop-y.y _ _ _ _ c.requires.begins.start c.loop-y.invariant.above _ _ c.in-Ok.ensures.puts c.put_row.ensures.stays c.in-Ok.ensures.calls.0 c.in-Ok.ensures.calls.1;
 }
 
--- this row broke it off
+-- writing stopped at this row
 pub returns-in-Err-clause-breaks : goal.returns-in-Err-clause-breaks
 returns-in-Err-clause-breaks g c =
     let start = c.requires.begins.start in

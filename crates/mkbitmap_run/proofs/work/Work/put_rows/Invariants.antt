@@ -1,6 +1,6 @@
 use Rattle.std.proofs.Common.{◌≡◌, true}
 use Rattle.mkbitmap_run.specs.Inner.Put.{world_of}
-use Rattle.mkbitmap_run.proofs.Breaking.{HasPutAbove}
+use Rattle.mkbitmap_run.proofs.BrokenOff.{HasPutAbove}
 use Rattle.mkbitmap_run.proofs.work.Work.put_rows.Given as goal
 
 -- the rows above this one are written

@@ -3,10 +3,10 @@ use Rattle.std.specs.Prelude.{string_bytes}
 use Rattle.run_output.specs.Made.{Past}
 use Rattle.run_output.specs.Inner.Made.{made_by}
 use Rattle.run_output.specs.Names.{made_with}
-use Rattle.run_output.proofs.Naming.{length-made_with, made_by_push, same_past}
+use Rattle.run_output.proofs.NameCounts.{length-made_with, made_by_push, same_past}
 use Rattle.run_output.proofs.made.Made.add.Goals as goal
 
--- one file more
+-- the invariant holds with one more file
 pub invariant_of-self-2 : goal.invariant_of-self-2
 invariant_of-self-2 c =
     let push = ap made_by c.in_ok-push.ensures.items ∙ made_by_push c.self.inside.files.items (record { base = c.args.base; documents = c.args.documents }) in

@@ -5,7 +5,7 @@ use Rattle.std.proofs.lemmas.List.Sums.{sum_by_more}
 use Rattle.run_output.specs.Made.{Past}
 use Rattle.run_output.specs.Inner.Made.{documents_of, made_by}
 use Rattle.run_output.specs.Names.{count_of}
-use Rattle.run_output.proofs.Naming.{documents_all, documents_most}
+use Rattle.run_output.proofs.NameCounts.{documents_all, documents_most}
 use Rattle.run_output.proofs.made.Made.count.Goals as goal
 
 pub overflow_add-count : goal.overflow_add-count
