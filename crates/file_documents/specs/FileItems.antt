@@ -1,4 +1,4 @@
--- What a run over files is to write, in order: it follows from the words and from what the files hold.
+-- What a run over files has to write, in order. It follows from the command line and from the contents of the files.
 use Rattle.std.specs.Prelude.{◌≡◌, ℕ, suc, ◌+◌, ◌<◌, ◌≤◌, ◌⊎◌, false, List, [], ◌∷◌, ◌++◌, codes, Option, None, Some}
 use Rattle.std.specs.FinMap.{get}
 use Rattle.pt_core.specs.Files.{Contents, Files}
@@ -16,21 +16,21 @@ use Rattle.page_batches.specs.Items.{Item, end_items}
 use Rattle.page_batches.specs.Items.Item.{Missing, Refuse, Write}
 use Rattle.file_documents.specs.Manner.{Manner, base_by, shown_by}
 
--- the pages of the run are more than it accepts
+-- the message that a run has more pages than it accepts
 abbrev pub too_many : List ℕ
 too_many = codes "too many pages"
 
--- what the files hold, where that is told
+-- the contents of the files, if they are known
 abbrev pub told_contents : Option Files → Option Contents
 told_contents None = None
 told_contents (Some files) = Some files.contents
 
--- it is told that there is no file of this name
+-- it is known that there is no file of this name
 abbrev pub IsAbsent : Option Contents → List ℕ → Type 0
 IsAbsent None name = ⊥
 IsAbsent (Some contents) name = get contents name ≡ None
 
--- the file of this name holds these pages, and ends so; where that isn't told, it may hold any
+-- the file of this name holds these pages, and ends so; if its contents aren't known, it may hold any pages
 abbrev pub HoldsPages : Option Contents → List ℕ → List Raw → FileEnd → Type 0
 HoldsPages None name raws ending = Unit {0}
 HoldsPages (Some contents) name raws ending = (bytes : List ℕ) × (get contents name ≡ Some bytes) × FilePages false bytes raws ending
@@ -43,25 +43,26 @@ Rest = Past → List Item → Type 0
 abbrev pub Nothing : Rest
 Nothing past items = items ≡ []
 
--- nothing follows the pages of a file, of which so many were read
+-- nothing follows the pages of a file of which this many were read
 abbrev pub PagesAlone : ℕ → Rest
 PagesAlone pages past items = items ≡ []
 
--- the page of this text, behind so many of its file, as a part of its document
+-- the page with this text, after `pages` pages of its file, as a part of its document
 abbrev pub page_item : Manner → List ℕ → Past → ℕ → List ℕ → Item
 page_item manner base past pages text =
     Write (page_part manner.binding (page_name manner.binding base past.made pages) pages text)
 
--- the items behind the pages of a file, of which there are so many, by how it ends. Well, or with trailing bytes: the items
--- of its end, and then what follows. With a refusal: its message is the last item, and no document is ended.
+-- the items after the last page of a file, by how the file ends. If it ends well or with trailing bytes: the items of
+-- its end, and then what follows. If it ends with a refusal: the refusal's message is the last item, and no document
+-- is ended.
 abbrev pub AreEndItems : Binding → List ℕ → List ℕ → ℕ → FileEnd → (List Item → Type 0) → List Item → Type 0
 AreEndItems b file name pages End Follow items = (rest : List Item) × (items ≡ end_items b name pages [] ++ rest) × Follow rest
 AreEndItems b file name pages Trailing Follow items =
     (rest : List Item) × (items ≡ end_items b name pages (trailing_line file pages ∷ []) ++ rest) × Follow rest
 AreEndItems b file name pages (Refused kind) Follow items = items ≡ Refuse (page_line file (pages + 1) (kind_text kind)) ∷ []
 
--- the pages of a file, of which so many came before: for each the part of a document with its text, and then what
--- follows them. With the first page that is too many for the run it ends.
+-- the pages of a file, after the given number of earlier ones: for each the part of a document with its text, and then
+-- what follows them. The run ends with the first page that is too many.
 abbrev pub ArePageItems : Manner → List ℕ → List ℕ → (ℕ → Rest) → List Raw → ℕ → Past → List Item → Type 0
 ArePageItems manner file base Behind [] pages past items = Behind pages past items
 ArePageItems manner file base Behind (raw ∷ raws) pages past items =
@@ -74,8 +75,8 @@ abbrev pub FileEnds : Manner → List ℕ → List ℕ → FileEnd → Rest → 
 FileEnds manner file base ending Follow pages past items =
     AreEndItems manner.binding file (next_name base past.made) pages ending (Follow (past_file manner.binding base pages past)) items
 
--- the files of these names in order, after what was made before, and then what follows them; with a file that isn't
--- there the run ends
+-- the items of the files of these names in order, after what was made before, and then what follows them; the run ends
+-- with a file that is missing
 abbrev pub AreItems : Option Contents → Manner → Rest → List (List ℕ) → Past → List Item → Type 0
 AreItems contents manner Follow [] past items = Follow past items
 AreItems contents manner Follow (name ∷ names) past items =

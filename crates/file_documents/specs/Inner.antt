@@ -1,4 +1,4 @@
--- What inner contracts alone speak of: no promise rests on it.
+-- Definitions that only inner contracts use: no promise rests on them.
 pub mod Manner
 pub mod Outcome
 pub mod Progress

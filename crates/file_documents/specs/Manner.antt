@@ -14,19 +14,19 @@ pub record Manner : Type 1 where
   pub binding : Binding
   pub belongs : Pixels → List ℕ → Type 0
 
--- the manner of these
+-- the manner with these parts
 abbrev pub manner_by : ℕ → Bool → Option (List ℕ) → List ℕ → Binding → (Pixels → List ℕ → Type 0) → Manner
 manner_by level invert output suffix binding belongs =
     record { level = level; invert = invert; output = output; suffix = suffix; binding = binding; belongs = belongs }
 
--- the page that is read of a raw one
+-- the page that is read from a raw one
 abbrev pub shown_by : Manner → Raw → Pixels
 shown_by manner raw = shown manner.level manner.invert raw
 
--- the name by which all documents of the file of this name go
+-- the base name of all documents of the file of this name
 abbrev pub base_by : Manner → List ℕ → List ℕ
 base_by manner name = base_name manner.output manner.suffix name
 
--- a text belongs to each page
+-- each page has a text
 abbrev pub HasTexts : Manner → Type 0
 HasTexts manner = (page : Pixels) → IsPage page → (text : List ℕ) × manner.belongs page text

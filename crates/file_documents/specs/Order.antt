@@ -7,17 +7,17 @@ use Rattle.page_batches.specs.Items.{Item}
 use Rattle.file_documents.specs.FileItems.{AreItems, Nothing, told_contents}
 use Rattle.file_documents.specs.Manner.{Manner}
 
--- what the files hold, where that is told; the manner in which they become documents; and their names, in order
+-- the contents of the files, if they are known; the manner in which they become documents; and their names, in order
 pub record Order : Type 1 where
   pub contents : Option Contents
   pub manner : Manner
   pub names : List (List ℕ)
 
--- the order of these
+-- the order with these parts
 abbrev pub order_by : Option Contents → Manner → List (List ℕ) → Order
 order_by contents manner names = record { contents = contents; manner = manner; names = names }
 
--- the order of the files of these names, where the inputs are these
+-- the order of the files of these names, read from these inputs
 abbrev pub order_of : Manner → List (List ℕ) → Source → Order
 order_of manner names source = order_by (told_contents source.files) manner names
 

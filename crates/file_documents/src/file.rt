@@ -1,4 +1,4 @@
-//! A whole file: opened, its pages read and held by batches, and how it ended said.
+//! One file of a run: it is opened, its pages are read and held in batches, and how it ended is reported.
 ghost use Rattle.std.specs.Prelude.{◌≡◌, ◌*◌, ◌⊎◌, ◌++◌, List, IfErr, OnOk, option_map};
 ghost use Rattle.run_output.specs.Names.{next_name};
 ghost use Rattle.run_output.specs.declared.status.Status.{Status};
@@ -27,8 +27,8 @@ use run_output::{
 use std::alloc::Global;
 use std::thread::Threads;
 
-/// Opens a file and reads its pages into the batch, which is carried out where it is full. An `Err` says how
-/// the run ends in this file: whole pages in front of that are converted and written first.
+/// Opens a file and reads its pages into the batch. The batch is carried out when it is full. An `Err` is the status
+/// with which the run ends in this file; the whole pages before that are converted and written first.
 pub(crate) fn convert_file<
     R: Threads + Sync,
     J: PageJob + Sync,
@@ -84,8 +84,8 @@ pub(crate) fn convert_file<
     }
 }
 
-/// Carries out all that is held, and then says that a file couldn't be opened. Answers how the run ends: so, or
-/// where that couldn't be carried out.
+/// Carries out everything that is held, and then reports that a file couldn't be opened. Returns the status with which
+/// the run ends: that of the missing file, or of what couldn't be carried out.
 fn end_unopened<R: Threads + Sync, J: PageJob + Sync, G: Gate + Sync, O: Outputs, E: Sink>(
     task: &Task<R, J, G>,
     name: &str,
@@ -110,8 +110,8 @@ fn end_unopened<R: Threads + Sync, J: PageJob + Sync, G: Gate + Sync, O: Outputs
     }
 }
 
-/// Holds what is to be done at the end of a file's pages, whose documents have this base name. Where the run ends
-/// there, all that is held is carried out first, but for want of memory.
+/// Holds what has to be done after the last page of a file. `base` is the base name of its documents. If the run ends
+/// here for a reason other than memory, everything that is held is carried out first.
 fn finish<R: Threads + Sync, J: PageJob + Sync, G: Gate + Sync, O: Outputs, E: Sink>(
     task: &Task<R, J, G>,
     name: &str,
@@ -155,8 +155,8 @@ fn finish<R: Threads + Sync, J: PageJob + Sync, G: Gate + Sync, O: Outputs, E: S
     }
 }
 
-/// Holds the end of a file of so many pages, whose documents have this base name. Where `trailing` is its name, bytes
-/// follow its pages that begin none. An `Err` says that the run ends for want of memory: that is said.
+/// Holds the end of a file that has this many pages. `trailing` is the file's name if bytes follow its pages that
+/// begin no page. An `Err` says that memory ran out, which has been reported.
 fn hold_end<R: Threads + Sync, J: PageJob + Sync, G: Gate + Sync, O: Outputs, E: Sink>(
     task: &Task<R, J, G>,
     base: &str,
@@ -193,7 +193,7 @@ fn hold_end<R: Threads + Sync, J: PageJob + Sync, G: Gate + Sync, O: Outputs, E:
     }
 }
 
-/// Holds the end of a file of so many pages, with the name of its document where they are bound together.
+/// Holds the end of a file that has this many pages, with the name of its document if the pages are bound together.
 fn push_end(
     alloc: Global,
     binding: Binding,

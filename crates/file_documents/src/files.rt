@@ -19,8 +19,8 @@ use pt_core::{Gate, Inputs, Outputs, Sink};
 use run_output::{Made, Name, Status, say_out_of_memory};
 use std::thread::Threads;
 
-/// Reads the files in order, each opened once, by batches of twice as many pages as there are workers, and
-/// writes a document for each page: its text under the task's job.
+/// Reads the files in order and opens each once. A batch has twice as many pages as there are workers. For each page
+/// it writes a document with the text that the task's job makes.
 pub fn convert_files<
     R: Threads + Sync,
     J: PageJob + Sync,

@@ -1,4 +1,4 @@
-//! What follows from the definitions alone.
+//! Laws that follow from the definitions alone.
 ghost use Rattle.std.specs.Prelude.{◌≡◌, ℕ, Bool, List, Option, Some};
 ghost use Rattle.pt_core.specs.Files.{Contents};
 ghost use Rattle.run_output.specs.Made.{Past};
@@ -14,7 +14,7 @@ ghost use Rattle.file_documents.specs.Outcome.{IsOutcome};
 use page_workers::PageJob;
 use run_output::Binding;
 
-/// Whatever the files hold, there is a list of what a run is to write, where a text belongs to each page.
+/// Whatever the files hold, there is a list of what a run has to write, if each page has a text.
 pub fn files_have_items<J: PageJob>(job: &J)
     ensures { (level : ℕ) (invert : Bool) (output : Option (List ℕ)) (suffix : List ℕ) (binding : Binding)
         → HasTexts (manner_by level invert output suffix binding (J.belongs job.now))
@@ -23,8 +23,8 @@ pub fn files_have_items<J: PageJob>(job: &J)
         Nothing names past items }
 {}
 
-/// Where it is told what the files hold there is only one such list: it is a function of that, of how pages are read
-/// and documents named, and of the names.
+/// If the contents of the files are known, there is only one such list. It is a function of these contents, of how
+/// pages are read and documents named, and of the names of the files.
 pub fn items_are_one<J: PageJob>(job: &J)
     ensures { (level : ℕ) (invert : Bool) (output : Option (List ℕ)) (suffix : List ℕ) (binding : Binding)
         (contents : Contents) (names : List (List ℕ)) (past : Past) (items others : List Item)
@@ -35,7 +35,7 @@ pub fn items_are_one<J: PageJob>(job: &J)
         → items ≡ others }
 {}
 
-/// Where each page is a document of its own, each document of such a list is one part: it is written whole, or cut off.
+/// If each page is a document of its own, each document in such a list is one part: it is written whole, or cut off.
 pub fn documents_are_whole<J: PageJob>(job: &J)
     ensures { (level : ℕ) (invert : Bool) (output : Option (List ℕ)) (suffix : List ℕ)
         (contents : Option Contents) (names : List (List ℕ)) (past : Past) (items : List Item)
@@ -44,8 +44,8 @@ pub fn documents_are_whole<J: PageJob>(job: &J)
         → AreWhole items }
 {}
 
-/// Two runs over told files end alike, where nothing disturbs them: the outcome is a function of what the files hold, of
-/// how pages are read and documents named, and of the names.
+/// Two runs over files with known contents end alike if nothing disturbs them. The outcome is a function of these
+/// contents, of how pages are read and documents named, and of the names of the files.
 pub fn outcomes_are_alike<J: PageJob>(job: &J)
     ensures { (level : ℕ) (invert : Bool) (output : Option (List ℕ)) (suffix : List ℕ) (binding : Binding)
         (contents : Contents) (names : List (List ℕ)) (s t : Status)

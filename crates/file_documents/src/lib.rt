@@ -1,10 +1,10 @@
-//! The files of a run: their pages are read, and a text of each is written, one after another, under the names of
-//! their documents; and what went wrong is said.
+//! The files of a run: reads their pages, writes a text of each under the names of their documents, and reports what
+//! went wrong.
 //!
-//! Which text is a page's a job says, of which nothing else is known here. A run is a list of items: documents to
-//! write and messages to say, in order. What a file adds to that list follows from its bytes, and from the documents
-//! of the files in front of it, which have numbers in their names. `files` has the call that does all of it; what it
-//! holds between two files nobody else sees.
+//! A job decides which text belongs to a page; nothing else is known of it here. A run is a list of items: documents
+//! to write and messages to report, in order. What a file adds to that list follows from its bytes, and from the
+//! documents of the files before it, because names are numbered. `files` has the call that does all of this; what it
+//! holds between two files is private.
 #![tactic(auto)]
 
 mod file;

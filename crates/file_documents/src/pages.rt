@@ -1,4 +1,4 @@
-//! The pages of the opened file, read one after another, and held by batches.
+//! Reads the pages of the open file one after another and holds them in batches.
 ghost use Rattle.std.specs.Prelude.{◌≡◌, ◌+◌, ◌*◌, ◌++◌, ◌∷◌, ◌<◌, [], List, ℕ, suc, IfErr, IfOk, OnOk};
 ghost use Rattle.run_output.specs.Names.{document_name};
 ghost use Rattle.run_output.specs.Made.{documents_before};
@@ -24,15 +24,15 @@ use pt_core::{Gate, Inputs, Outputs, Sink};
 use run_output::{Made, Status, document_name, say_out_of_memory};
 use std::thread::Threads;
 
-/// How many pages a run accepts.
+/// The largest number of pages that a run accepts.
 const MOST_PAGES: u32 = 65536;
 
 /// Why no further page of a file was read.
 #[derive(Drop)]
 pub(crate) enum PagesEnd {
-    /// The file ends where a page may end.
+    /// The file ends at a place at which a page may end.
     End,
-    /// Bytes that begin no page follow.
+    /// Bytes follow that begin no page.
     Trailing,
     /// The page is one more than a run accepts.
     TooMany,
@@ -40,16 +40,16 @@ pub(crate) enum PagesEnd {
     Fault(InFault),
 }
 
-/// How many pages of a file were read, and why no further one was.
+/// How many pages of a file were read, and why no further page was.
 #[derive(Drop)]
 pub(crate) struct Converted {
     pub(crate) pages: u32,
     pub(crate) end: PagesEnd,
 }
 
-/// Reads the pages of the opened file into the batch, each with the name of its document, which
-/// comes after those of the documents made before. A batch that is full is carried out. An `Err`
-/// says how the run ends there: that is said.
+/// Reads the pages of the open file into the batch, each with the name of its document, numbered after the documents
+/// made before. A full batch is carried out. An `Err` is the status with which the run ends here, which has been
+/// reported.
 pub(crate) fn convert_pages<
     R: Threads + Sync,
     J: PageJob + Sync,
@@ -95,8 +95,8 @@ pub(crate) fn convert_pages<
     Ok(Converted { pages, end })
 }
 
-/// Holds a page, behind so many of its file, whose documents come after so many with their base name. A batch that is
-/// full is carried out. An `Err` says how the run ends there: that is said.
+/// Holds a page, after `before` pages of its file and `first` documents of its base name. A full batch is carried out. An `Err` is the status with which the run ends here, which has
+/// been reported.
 fn hold_page<R: Threads + Sync, J: PageJob + Sync, G: Gate + Sync, O: Outputs, E: Sink>(
     task: &Task<R, J, G>,
     base: &str,
@@ -155,7 +155,7 @@ fn read_next<R: Threads + Sync, J: PageJob + Sync, G: Gate + Sync, I: Inputs>(
     }
 }
 
-/// What follows the last page that a run accepts.
+/// Finds out what follows the last page that a run accepts.
 fn end_after_most<R: Threads + Sync, J: PageJob + Sync, G: Gate + Sync, I: Inputs>(
     task: &Task<R, J, G>,
     reader: &mut PageReader,

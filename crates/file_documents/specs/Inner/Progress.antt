@@ -1,4 +1,4 @@
--- How far the converting of files has come: which pages were read, and what of them is carried out or held.
+-- How far the converting of files has come: which pages were read, and which of them are carried out or held.
 use Rattle.std.specs.Prelude.{◌≡◌, ◌≢◌, ◌⊎◌, ℕ, suc, ◌+◌, ◌*◌, ◌<◌, ◌≤◌, Bool, false, true, List, [], ◌∷◌, ◌++◌, length, drop, Option, Some, IfSome, option_map, Result, Ok, Err}
 use Rattle.pt_core.specs.Counts.{Rose, next_count}
 use Rattle.pt_core.specs.declared.sink.Sink.{Ghosts as SinkGhosts}
@@ -45,23 +45,23 @@ AreConverted manner (raw ∷ raws) (text ∷ texts) = manner.belongs (shown_by m
 AreConverted manner [] (text ∷ texts) = ⊥
 AreConverted manner (raw ∷ raws) [] = ⊥
 
--- the items of pages of these texts, behind so many of their file, whose documents have this base name
+-- the items of pages with these texts, after earlier pages of their file; their documents have this base name
 abbrev pub text_items : Manner → List ℕ → Past → ℕ → List (List ℕ) → List Item
 text_items manner base past pages [] = []
 text_items manner base past pages (text ∷ texts) = page_item manner base past pages text ∷ text_items manner base past (suc pages) texts
 
--- the bytes that the reader has still to read pages from, where they are told
+-- the bytes from which the reader still has to read pages, if they are known
 abbrev pub ahead : Reader → Option Files → Option (List ℕ)
 ahead reader files = option_map (reader_ahead reader) (unread files)
 
--- this page stands there, not by the end of the bytes, and the bytes behind it are the `left` ones
+-- this page is at the start of the bytes, not by their end, and the bytes after it are `left`
 pub record Settles (later : Bool) (bytes : List ℕ) (raw : Raw) (used : ℕ) (left : List ℕ) : Type 0 where
   pub is : front later bytes ≡ Page raw used
   pub open_end : is_by_end (page_at later bytes) ≡ false
   pub behind : left ≡ drop (next_begins bytes raw used) bytes
 
--- the next page of what is ahead was read; as long as no read has given nothing, it is the next page
--- whatever comes behind the bytes that were taken
+-- the next page was read from what is ahead; unless a read has returned nothing, it is the next page whatever comes
+-- after the bytes that were taken
 pub record ReadsPage (manner : Manner) (old : Reader) (before : Option Files) (page : Pixels) (new : Reader) (now : Option Files) : Type 0 where
   pub raw : Raw
   pub used : ℕ
@@ -75,21 +75,21 @@ pub record ReadsPage (manner : Manner) (old : Reader) (before : Option Files) (p
   pub counted : new.pages ≡ old.pages + 1
   pub going_on : new.over ≡ false
 
--- bytes were taken of the file, as far as what stands ahead needs them
+-- bytes of the file were taken, as far as they are needed to know what is ahead
 pub record TakesNeeded (old : Reader) (before : Option Files) (new : Reader) (now : Option Files) : Type 0 where
   pub more : List ℕ
   pub moves : Moves old.ended before new.ended now more
   pub needed : AreNeeded (λ bytes. page_at (reader_is_later old) (reader_ahead old bytes)) more
 
--- no further page was read for this reason, where `later` says whether a page came before and `rest` is what is ahead:
--- the pages end, or one is refused; or a page is one too many; or a read failed, or memory ran out
+-- no further page was read for this reason; `later` says whether a page came before, and `rest` is what is ahead.
+-- Either the pages end, or one is refused, or a page is one too many, or a read failed, or memory ran out
 abbrev pub EndsBy : Bool → Option (List ℕ) → PagesEnd → Type 0
 EndsBy later rest why.End = IfSome rest (λ bytes. front later bytes ≡ Ends End)
 EndsBy later rest why.Trailing = IfSome rest (λ bytes. front later bytes ≡ Ends Trailing)
 EndsBy later rest why.TooMany = (raw : Raw) × (used : ℕ) × IfSome rest (λ bytes. front later bytes ≡ Page raw used)
 EndsBy later rest (why.Fault f) = IfSome rest (λ bytes. IfSays (cause_of_fault f) (λ ending. front later bytes ≡ Ends ending))
 
--- the status with which a run ends where the pages of a file end so; at Done it goes on
+-- the status of a run that ends with the pages of a file that end so; at Done the run goes on
 abbrev pub status_of : PagesEnd → Status
 status_of why.End = status.Done
 status_of why.Trailing = status.Done
@@ -97,70 +97,69 @@ status_of (why.Fault fault.ReadFault) = status.Unread
 status_of (why.Fault fault.NoMemory) = status.OutOfMemory
 status_of end = status.Refused
 
--- the count of faults of the inputs moved as it does where the reading of pages ends so: it rose where a read failed,
--- and else it stayed, but where memory ran out
+-- how the inputs' count of faults moves if reading pages ends so: it rises if a read failed, it may rise if memory ran
+-- out, and it stays otherwise
 abbrev pub FaultsBy : PagesEnd → ℕ → ℕ → Type 0
 FaultsBy (why.Fault fault.ReadFault) before now = Rose before now
 FaultsBy (why.Fault fault.NoMemory) before now = Unit {0}
 FaultsBy end before now = now ≡ before
 
--- a file is opened, and where a read gave nothing of it nothing is left of it; and the reader isn't over
+-- a file is open, nothing of it is left if a read returned nothing, and the reader isn't over
 pub record CanRead (reader : Reader) (source : Source) : Type 0 where
   pub opened : source.is_opened ≡ true
   pub at_end : reader.ended ≡ true → AtEnd source.files
   pub going_on : reader.over ≡ false
   pub room : reader.pages < 4294967295
 
--- the reading of pages ended for this reason: that is what stands ahead; where a read failed it is so by the end of what
--- was taken; and so the count of faults moved
+-- reading pages ended for this reason, which is what is ahead; after a failed read it is so by the end of what was
+-- taken; and the count of faults moved accordingly
 pub record EndsReading (end : PagesEnd) (old : Reader) (before : Source) (new : Reader) (now : Source) : Type 0 where
   pub ends : EndsBy (reader_is_later old) (ahead old before.files) end
   pub read_fault : end ≡ why.Fault fault.ReadFault → ReadFails old before.files new now.files
   pub faults : FaultsBy end before.faults now.faults
 
--- the next page was read, and the reader can read on; or none was, for this reason
+-- the next page was read, and the reader can read on; or no page was read, for this reason
 abbrev pub Answered : Result Pixels PagesEnd → Manner → Reader → Source → Reader → Source → Type 0
 Answered (Ok page) manner old before new now =
     ReadsPage manner old before.files page new now.files × IsPage page × (now.faults ≡ before.faults)
     × (now.is_opened ≡ true) × (new.ended ≡ true → AtEnd now.files)
 Answered (Err end) manner old before new now = EndsReading end old before new now × (end ≢ why.TooMany)
 
--- bytes were taken of the opened file, as far as what stands ahead needs them, and no file was opened
+-- bytes of the open file were taken, as far as they are needed to know what is ahead, and no file was opened
 pub record TakesBytes (old : Reader) (before : Source) (new : Reader) (now : Source) : Type 0 where
   pub needed : TakesNeeded old before.files new now.files
   pub openings : now.openings ≡ before.openings
 
--- no file was opened: the opened one is the one that was, and the files hold what they held
+-- no file was opened: the open one is the same as before, and the files hold what they held
 pub record OpensNoFile (old new : Source) : Type 0 where
   pub openings : new.openings ≡ old.openings
   pub name : opened_name new.files ≡ opened_name old.files
   pub contents : told_contents new.files ≡ told_contents old.files
 
--- what is held waits for a page of a file behind so many, and messages can be said
+-- what is held waits for a page of a file, after the given number of earlier ones, and messages can be reported
 pub record CanHold {A B : Type 0} (of_outs : SinkGhosts A) (of_errs : SinkGhosts B) (b : Binding) (size pages : ℕ) (desk : Desk A B) (held : List Held) : Type 0 where
   pub waits : Waits b size pages (of_outs.is_ready desk.outs.now) held
   pub ready : of_errs.is_ready desk.errs.now ≡ true
 
--- a file was opened, and nothing is read of it
+-- a file was opened, and nothing of it is read yet
 pub record IsAtStart (reader : Reader) (source : Source) : Type 0 where
   pub opened : source.is_opened ≡ true
   pub fresh : reader ≡ at_start
 
--- the file of this name was asked for: it is the opened one, where one is opened and that is told; and the files hold
--- what they held
+-- the file of this name was asked for: it is the open one, if one is open and known; and the files hold what they held
 pub record AsksFor (name : List ℕ) (old new : Source) : Type 0 where
   pub one_more : new.openings ≡ next_count old.openings
   pub named : IfSome (opened_name new.files) (λ opened. opened ≡ name)
   pub contents : told_contents new.files ≡ told_contents old.files
 
--- a read failed behind these pages, and of the opened file the bytes behind those that were taken are unread
+-- a read failed after these pages, and the bytes of the open file after those that were taken are unread
 pub record HasUnread (raws : List Raw) (before now : Option Files) : Type 0 where
   pub taken : List ℕ
   pub stops : StopsReading taken raws
   pub told : IfSome (unread before) (λ bytes. (rest : List ℕ) × (bytes ≡ taken ++ rest) × (unread now ≡ Some rest))
 
--- k pages were read, after what was made before, and then the reading ended so; of what was held before and these
--- pages, the first are carried out, and the others are held
+-- k pages were read, after what was made before, and then reading ended so; of what was held before and these pages,
+-- the first are carried out, and the others are held
 pub record Converts (size : ℕ) (manner : Manner) (base : List ℕ) (past : Past) (before now : Option Files) (held held_now : List Held) (old new : Sinks) (k : ℕ) (end : PagesEnd) : Type 0 where
   pub raws : List Raw
   pub texts : List (List ℕ)
@@ -175,7 +174,7 @@ pub record Converts (size : ℕ) (manner : Manner) (base : List ℕ) (past : Pas
   pub unread : end ≡ why.Fault fault.ReadFault → HasUnread raws before now
   pub holds : (first : List Item) → AreHeld manner.binding manner.belongs held first → Holds manner.binding size manner.belongs (first ++ text_items manner base past 0 texts) held_now old new
 
--- a document couldn't be written: behind whole batches, and the items hold one batch more at most
+-- a document couldn't be written, after whole batches; the items hold at most one more batch
 pub record IsInPart (size : ℕ) (items : List Item) (old new : Sinks) : Type 0 where
   pub unwritten : IsUnwritten items old new
   pub batches : ℕ
@@ -190,14 +189,15 @@ pub record IsInBatch (size : ℕ) (items : List Item) (old new : Sinks) : Type 0
   pub within : page_count unwritten.before < page_count items
   pub full : page_count items ≡ batches * size + size
 
--- memory ran out behind whole batches, and the items hold one batch more at most
+-- memory ran out after whole batches; the items hold at most one more batch
 pub record RunsOutIn (size : ℕ) (items : List Item) (old new : Sinks) : Type 0 where
   pub out : IsOutOfMemory items old new
   pub batches : ℕ
   pub whole : page_count out.before ≡ batches * size
   pub most : page_count items ≤ batches * size + size
 
--- memory ran out in a file, behind these first items: whole batches are carried out, and at most one batch more was read
+-- memory ran out in a file, after these first items: whole batches are carried out, and at most one more batch was
+-- read
 pub record LosesWithin (size : ℕ) (first : List Item) (order : Order) (past : Past) (source source_now : Source) (old new : Sinks) : Type 0 where
   pub items : List Item
   pub are : AreAllItems order past items
@@ -206,9 +206,9 @@ pub record LosesWithin (size : ℕ) (first : List Item) (order : Order) (past : 
   pub whole : page_count out.before ≡ batches * size
   pub reads : ReadsAtMost (page_count out.before + size) first order past source source_now
 
--- some pages were read, after what was made before; what was held before and these pages were carried out as far as the
--- status says. Where a part couldn't be written it is one of a batch that ends with them, and at most 65,536 bytes
--- behind them were taken.
+-- some pages were read, after what was made before; what was held before and these pages were carried out as far as
+-- the status says. If a part couldn't be written, it belongs to a batch that ends with these pages, and at most 65,536
+-- bytes after them were taken.
 pub record Halts (s : Status) (size : ℕ) (manner : Manner) (base : List ℕ) (past : Past) (before now : Option Files) (held : List Held) (old new : Sinks) : Type 0 where
   pub raws : List Raw
   pub texts : List (List ℕ)
@@ -221,38 +221,38 @@ pub record Halts (s : Status) (size : ℕ) (manner : Manner) (base : List ℕ) (
   pub in_memory : s ≡ status.OutOfMemory → (first : List Item) → AreHeld manner.binding manner.belongs held first → RunsOutIn size (first ++ text_items manner base past 0 texts) old new
   pub near : IfSome (unread before) (λ all. (behind : List ℕ) × (rest : List ℕ) × LeavesBehind false all raws behind × (unread now ≡ Some rest) × (length behind ≤ length rest + 65536))
 
--- the reading of pages ended: with the file's pages, or within a batch that couldn't be carried out
+-- reading pages ended: with the file's pages, or within a batch that couldn't be carried out
 abbrev pub EndsPages : Result Converted Status → ℕ → Manner → List ℕ → Past → Option Files → Option Files → List Held → List Held → Sinks → Sinks → Type 0
 EndsPages (Ok converted) size manner base past before now held held_now old new =
     Converts size manner base past before now held held_now old new converted.pages converted.end
 EndsPages (Err s) size manner base past before now held held_now old new = IsHalt s × Halts s size manner base past before now held old new
 
--- the items of the end of a file of this name whose k pages end so, where the run goes on: its documents have this base
--- name
+-- the items at the end of the file of this name, if its k pages end so and the run goes on; its documents have this
+-- base name
 abbrev pub items_at_end : Manner → List ℕ → List ℕ → Past → PagesEnd → ℕ → List Item
 items_at_end manner name base past why.End k = end_items manner.binding (next_name base past.made) k []
 items_at_end manner name base past why.Trailing k = end_items manner.binding (next_name base past.made) k (trailing_line name k ∷ [])
 items_at_end manner name base past end k = []
 
--- what is said where the run ends with the pages of the file of this name, k of which were read
+-- the message with which a run ends after the pages of the file of this name, k of which were read
 abbrev pub end_message : List ℕ → PagesEnd → ℕ → List ℕ
 end_message name (why.Fault f) k = page_line name (k + 1) (fault_text f)
 end_message name why.TooMany k = page_line name (k + 1) too_many
 end_message name end k = []
 
--- the run ends with the pages of a file: these items, which were held, are carried out, and the message is
--- said; or they are carried out as far as the status says
+-- the run ends with the pages of a file: these items, which were held, are carried out, and the message is reported;
+-- or the items are carried out as far as the status says
 abbrev pub EndsWithFile : List ℕ → PagesEnd → ℕ → Status → List Item → Sinks → Sinks → Type 0
 EndsWithFile name end k s items old new =
     ((s ≡ status_of end) × (s ≢ status.Done) × (s ≢ status.OutOfMemory) × AreCarriedOut items (end_message name end k ∷ []) old new)
     ⊎ (((s ≡ status.Unwritten) ⊎ (s ≡ status.OutOfMemory)) × HasEnded s items old new)
 
--- memory ran out before any of the items that were to be carried out, whichever they are
+-- memory ran out before any of the items were carried out, whichever they are
 abbrev pub RunsOut : Status → Sinks → Sinks → Type 0
 RunsOut s old new = (s ≡ status.OutOfMemory) × ((items : List Item) → HasEnded status.OutOfMemory items old new)
 
--- how a call ended that was to hold these items behind those of what was held, whichever those are: they are carried out
--- or held; or memory ran out
+-- how a call ended that had to hold these items after those of what was held, whichever those are: they are carried
+-- out or held; or memory ran out
 abbrev pub EndsHeld : Result Unit Status → Manner → ℕ → List Item → List Held → List Held → Sinks → Sinks → Type 0
 EndsHeld (Ok done) manner size more held held_now old new =
     (first : List Item) → AreHeld manner.binding manner.belongs held first
@@ -263,35 +263,35 @@ EndsHeld (Err s) manner size more held held_now old new = RunsOut s old new
 abbrev pub EndsWith : Past → Rest
 EndsWith past past_now items = (past_now ≡ past) × (items ≡ [])
 
--- these are the items of the file of this name, and the run goes on behind them; of what was held before and
--- them the first are carried out, and the others are held
+-- these are the items of the file of this name, and the run goes on after them; of what was held before and these
+-- items, the first are carried out, and the others are held
 pub record ConvertsFile (size : ℕ) (contents : Option Contents) (manner : Manner) (name : List ℕ) (past past_now : Past) (held held_now : List Held) (old new : Sinks) : Type 0 where
   pub items : List Item
   pub are : AreItems contents manner (EndsWith past_now) (name ∷ []) past items
   pub holds : (first : List Item) → AreHeld manner.binding manner.belongs held first → Holds manner.binding size manner.belongs (first ++ items) held_now old new
 
--- the end of the pages of the file of this name, k of which were read, is held behind these items, and the run goes on;
+-- the end of the pages of the file of this name, k of which were read, is held after these items, and the run goes on;
 -- or the run ends there
 abbrev pub EndsWithPages : Result Unit Status → ℕ → Manner → List ℕ → List ℕ → Past → PagesEnd → ℕ → List Item → List Held → Sinks → Sinks → Type 0
 EndsWithPages (Ok done) size manner name base past end k items held_now old new =
     Holds manner.binding size manner.belongs (items ++ items_at_end manner name base past end k) held_now old new
 EndsWithPages (Err s) size manner name base past end k items held_now old new = EndsWithFile name end k s items old new
 
--- the status of a run that ends with the pages of a file that end so: it is theirs, or what was held couldn't be carried
--- out; where that couldn't be written there was something to be said of the file
+-- the status of a run that ends with the pages of a file that end so: it is the status of that end, or what was held
+-- couldn't be carried out; if that couldn't be written, there was something to report about the file
 pub record EndsBecause (end : PagesEnd) (s : Status) : Type 0 where
   pub which : (s ≡ status_of end) ⊎ IsHalt s
   pub unwritten : s ≡ status.Unwritten → (status_of end ≡ status.Refused) ⊎ (status_of end ≡ status.Unread)
 
--- the run goes on behind the pages of a file that end so, or it ends there
+-- the run goes on after the pages of a file that end so, or it ends there
 abbrev pub GoesOnAfter : Result Unit Status → PagesEnd → Type 0
 GoesOnAfter (Ok done) end = status_of end ≡ status.Done
 GoesOnAfter (Err s) end = EndsBecause end s
 
--- a file was converted: its items are carried out or held, its documents are counted, and it is read no farther than decides
--- how its pages end; or the run ends there, whatever files come behind it and whichever items are those of what was held;
--- and where a document couldn't be written no more was read than its batch; and where memory ran out, no more than one
--- batch behind what is carried out
+-- a file was converted: its items are carried out or held, its documents are counted, and it is read no farther than
+-- decides how its pages end. Or the run ends there, whatever files come after it and whichever items are those of what
+-- was held. If a document couldn't be written, no more was read than its batch; if memory ran out, no more than one
+-- batch after what is carried out
 abbrev pub EndsFile : Result Unit Status → ℕ → Manner → List ℕ → Past → Past → List Held → List Held → Source → Source → Sinks → Sinks → Type 0
 EndsFile (Ok done) size manner name past past_now held held_now source source_now old new =
     ConvertsFile size (told_contents source.files) manner name past past_now held held_now old new × EndsNear (told_contents source.files) name source_now
