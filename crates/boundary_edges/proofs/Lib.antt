@@ -4,10 +4,8 @@ pub mod Spread
 pub mod EdgeBits
 pub mod EdgeTaken
 pub mod LineSpots
-pub mod HeadingSpots
 pub mod CornerSpots
-pub mod Straight
-pub mod StretchEnds
+pub mod LinesTaken
 pub mod Bounded
 pub mod EightPixels
 pub mod Taken

@@ -150,25 +150,6 @@ spot_is rows size p q kind k u v hp hq (inl along) zero_is one_is =
     ap (λ n. same_edge n (max (nat_abs p.x) (nat_abs q.x) + 3) (max (nat_abs p.y) (nat_abs q.y) + 3) k u v) (one_is apart)
     ∙ spot_level (nat_abs p.x) (nat_abs p.y) (nat_abs q.x) (nat_abs q.y) k u v next (ap nat_abs along.0)
 
--- an upright line, in its column
-pub upright_spot : (rows size : ℕ) (p q : Point) (row k u v : ℕ) → FitsStrips rows size p → FitsStrips rows size q → IsUnitStep p q → nat_abs p.x ≡ nat_abs q.x → row ≡ max (nat_abs p.y) (nat_abs q.y)
-    → same_edge 0 (nat_abs p.x + 3) (row + 3) k u v ≡ is_along k u v (line_between p q)
-upright_spot rows size p q row k u v hp hq step same greater =
-    let column : nat_abs p.x ≡ max (nat_abs p.x) (nat_abs q.x) = omega arith in
-    ap (λ n. same_edge 0 (n + 3) (row + 3) k u v) column
-    ∙ ap (λ n. same_edge 0 (max (nat_abs p.x) (nat_abs q.x) + 3) (n + 3) k u v) greater
-    ∙ spot_is rows size p q 0 k u v hp hq step (λ _. refl) (λ e. absurd (false≢true (sym e ∙ eq-eqb (nat_abs p.x) (nat_abs q.x) same)))
-
--- a level line, in its row
-pub level_spot : (rows size : ℕ) (p q : Point) (column k u v : ℕ) → FitsStrips rows size p → FitsStrips rows size q → IsUnitStep p q → nat_abs p.x ≢ nat_abs q.x → column ≡ max (nat_abs p.x) (nat_abs q.x)
-    → same_edge 1 (column + 3) (nat_abs p.y + 3) k u v ≡ is_along k u v (line_between p q)
-level_spot rows size p q column k u v hp hq step apart greater =
-    let level : nat_abs p.y ≡ nat_abs q.y = elim step [ inl along ↦ ap nat_abs along.0 | inr up ↦ absurd (apart (ap nat_abs up.0)) ] in
-    let row : nat_abs p.y ≡ max (nat_abs p.y) (nat_abs q.y) = omega arith in
-    ap (λ n. same_edge 1 (n + 3) (nat_abs p.y + 3) k u v) greater
-    ∙ ap (λ n. same_edge 1 (max (nat_abs p.x) (nat_abs q.x) + 3) (n + 3) k u v) row
-    ∙ spot_is rows size p q 1 k u v hp hq step (λ e. absurd (apart e)) (λ _. refl)
-
 pub step_at : (points : List Point) (k : ℕ) → IsClosedWalk points → suc k < length points → IsUnitStep (get_or points k origin) (get_or points (suc k) origin)
 step_at points k closed short =
     subst (λ j. IsUnitStep (get_or points j origin) (get_or points (suc k) origin)) (mod-eq_of_lt {n = k} {m = length points} (omega arith))

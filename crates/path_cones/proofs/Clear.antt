@@ -14,15 +14,6 @@ use Rattle.path_cones.specs.declared.cone.Cone.TheVariants.{Open}
 use Rattle.path_cones.proofs.Running.{run_clear, run_holds, run_ends}
 use Rattle.path_cones.proofs.Turns.{straight_run}
 
-pub open_holds : (path : ℕ → Point) → HoldsNear path 0 Open
-open_holds path = record {
-  all_near = λ way h j l m. absurd (omega arith);
-  all_held = λ way h. tt;
-}
-
-pub nothing_clear : (path : ℕ → Point) → IsClear path 0
-nothing_clear path = λ j k h l m. absurd (omega arith)
-
 -- the steps from a point of the path to the next corner are a run of the path
 pub path_run : (points : List Point) (first s d r : ℕ) → IsNextCorner points (first + s) d → r ≤ d → GoesStraight (path_from points first) s r
 path_run points first s d r next h t l =

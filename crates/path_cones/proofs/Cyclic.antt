@@ -32,12 +32,6 @@ pub lap_at : (points : List Point) (begin k : ℕ) → (begin ≡ 0) ⊎ (begin 
 lap_at points begin k (inl e) after before = listed points points (k - begin) refl (omega arith) ∙ ap (point_at points) (omega arith)
 lap_at points begin k (inr e) after before = listed points points (k - begin) refl (omega arith) ∙ lap_before points k begin e after
 
--- the step from one point of the walk to the next
-pub step_between : (points : List Point) (i k : ℕ) (here there : Point) (step : Vector) → k ≡ i + 1 → step ≡ vector_of here there
-    → here ≡ point_at points i → there ≡ point_at points k → step ≡ vector_of (point_at points i) (point_at points (i + 1))
-step_between points i k here there step next is here_is there_is =
-    is ∙ ap (λ p. vector_of p there) here_is ∙ ap (λ p. vector_of (point_at points i) p) (there_is ∙ ap (point_at points) next)
-
 -- the path from the next index is the rest of the path
 pub rest_is : (points : List Point) (at : ℕ) → path_from points (at + 1) ≡ (λ k. path_from points at (suc k))
 rest_is points at = fun_ext (λ k. let e : k + (at + 1) ≡ suc k + at = omega arith in ap (point_at points) e)

@@ -1,6 +1,5 @@
 pub mod Along
 pub mod Around
-pub mod Borders
 pub mod Bounds
 pub mod Breadths
 pub mod Clear

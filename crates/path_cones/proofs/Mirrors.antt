@@ -36,9 +36,6 @@ mirrored_side way side =
     let goes = side.goes in
     record { forward = record { x = side.forward.y; y = side.forward.x }; goes = omega (arith, ints) }
 
-mirrored_cross : (a b : Vector) → cross_of (mirrored_of b) (mirrored_of a) ≡ cross_of a b
-mirrored_cross a b = omega (arith, ints)
-
 abbrev pub mirror_of : Funnel → Funnel
 mirror_of f = record {
   way = mirrored_of f.way;

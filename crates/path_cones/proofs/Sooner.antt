@@ -75,14 +75,6 @@ next_index points last at wanted step later index is rest which =
       | inr h ↦ subst P (sym h.1) (rest h.0)
     ]
 
--- at the last index no step is taken
-pub next_at_last : (points : List Point) (last : ℕ) (step : Vector) → IsNext points last last step last
-next_at_last points last step = record {
-  after = omega arith;
-  taken = λ c h l. absurd (omega arith);
-  first = λ c h t. let e = t.early in omega arith;
-}
-
 vector_same : (o r : Vector) → o.x ≡ r.x → o.y ≡ r.y → o ≡ r
 vector_same o r x y = ap (λ v. record { x = v; y = o.y }) x ∙ ap (λ v. record { x = r.x; y = v }) y
 
@@ -159,68 +151,3 @@ module _ (points : List Point) (walk : IsClosedWalk points) (at : ℕ) (ahead so
   ahead_earlier n =
       ahead_where (omega (arith, n.order)) n.within
       (else_later east ahead.east n.east) (else_later north ahead.north n.north) (else_later west ahead.west n.west) (else_later south ahead.south n.south)
-
-  -- told once more from the same index
-  pub ahead_again : IsAhead points at ahead → IsAhead points at sooner
-  ahead_again n = ahead_where n.order n.within (λ other. n.east) (λ other. n.north) (λ other. n.west) (λ other. n.south)
-
--- ---- the same step twice
-
-some_index : (goes wanted : ℤ) (here later : ℕ) → (index : ℕ) × IsIndexOf goes wanted here later index
-some_index goes wanted here later = elim (same_z goes wanted) [ inl e ↦ (here, inl (e, refl)) | inr other ↦ (later, inr (other, refl)) ]
-
-pub some_sooner : (ahead : Ahead) (step : Vector) (here : ℕ) → (sooner : Ahead) × IsSooner ahead step here sooner
-some_sooner ahead step here =
-    let e = some_index step.x (pos 1) here ahead.east in
-    let n = some_index step.y (pos 1) here ahead.north in
-    let w = some_index step.x (negsuc 0) here ahead.west in
-    let s = some_index step.y (negsuc 0) here ahead.south in (
-      record { east = e.0; north = n.0; west = w.0; south = s.0; last = ahead.last },
-      record { east = e.1; north = n.1; west = w.1; south = s.1; same_last = refl },
-    )
-
-module _ (goes wanted : ℤ) (at first later index : ℕ) (before : IsIndexOf goes wanted (at + 1) first later) (here : IsIndexOf goes wanted at first index) where
-  index_again : IsIndexOf goes wanted at later index
-  index_again = elim before [
-    | inl h ↦ elim here [ inl k ↦ inl k | inr k ↦ absurd (k.0 h.0) ]
-    | inr h ↦ elim here [ inl k ↦ absurd (h.0 k.0) | inr k ↦ inr (k.0, k.1 ∙ sym h.1) ]
-  ]
-
-  -- what isn't the next index is no sooner
-  no_sooner : (most : ℕ) → at + 1 ≤ most → index ≤ most → later ≤ most
-  no_sooner most some within = elim before [
-    | inl h ↦ let e = h.1 in omega arith
-    | inr h ↦ elim here [ inl k ↦ absurd (h.0 k.0) | inr k ↦ let e = h.1 in let f = k.1 in omega arith ]
-  ]
-
--- where a step comes before the same one, the last of the four directions is taken no sooner
-module _ (points : List Point) (at : ℕ) (first later sooner : Ahead) (step : Vector)
-    (before : IsSooner first step (at + 1) later) (here : IsSooner first step at sooner) where
-  pub sooner_again : IsSooner later step at sooner
-  sooner_again = record {
-    east = index_again _ _ _ _ _ _ before.east here.east;
-    north = index_again _ _ _ _ _ _ before.north here.north;
-    west = index_again _ _ _ _ _ _ before.west here.west;
-    south = index_again _ _ _ _ _ _ before.south here.south;
-    same_last = here.same_last ∙ sym before.same_last;
-  }
-
-  -- the step isn't both to the right and to the left
-  one_is_later : at + 1 ≤ later.east → at + 1 ≤ later.west → at + 1 ≤ four_taken sooner
-  one_is_later e w = elim sooner_again.east [
-    | inr right ↦ let k = right.1 in omega arith
-    | inl right ↦ elim sooner_again.west [
-      | inr left ↦ let k = left.1 in omega arith
-      | inl left ↦ let a = right.0 in let b = left.0 in absurd (omega (arith, ints))
-    ]
-  ]
-
-  pub all_no_sooner : IsAhead points (at + 1) later → four_taken later ≤ four_taken sooner
-  all_no_sooner n =
-      let some = one_is_later n.east.after n.west.after in
-      let most = four_taken sooner in
-      let e = no_sooner _ _ _ _ _ _ before.east here.east most some (omega arith) in
-      let f = no_sooner _ _ _ _ _ _ before.north here.north most some (omega arith) in
-      let g = no_sooner _ _ _ _ _ _ before.west here.west most some (omega arith) in
-      let h = no_sooner _ _ _ _ _ _ before.south here.south most some (omega arith) in
-      omega arith

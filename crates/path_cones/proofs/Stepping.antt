@@ -167,12 +167,6 @@ earlier_strip strip across x y step is before in_x x_more in_y y_more = record {
   same_quarter = refl;
 }
 
-no_lower : (z by : ℤ) → by ≡ pos 0 → z ≤ℤ (z +ℤ by)
-no_lower z by none = omega (arith, ints)
-
-no_higher : (z by : ℤ) → by ≡ pos 0 → (z +ℤ by) ≤ℤ z
-no_higher z by none = omega (arith, ints)
-
 no_farther : (z by : ℤ) → pos 0 ≤ℤ by → (z -ℤ by) ≤ℤ z
 no_farther z by onward = omega (arith, ints)
 
@@ -183,15 +177,3 @@ onward_strip strip across step is before onward =
     earlier_strip strip across strip.back.x strip.back.y step is before
     is.back_x (no_farther strip.back.x (strip.quarter.right *ℤ step.x) onward.right)
     is.back_y (no_farther strip.back.y (strip.quarter.up *ℤ step.y) onward.up)
-
--- a step along the way, and onward in the quarter
-pub stays_as_it_is : (strip : Strip) (step : Vector) → IsStrip strip → cross_of strip.way step ≡ pos 0
-    → GoesOnward strip.quarter step → TakesStep strip step strip
-stays_as_it_is strip step is none onward =
-    (onward_strip strip strip.across step is (record {
-      low = is.least;
-      high = is.greatest;
-      least = no_lower strip.across.least (cross_of strip.way step) none;
-      greatest = no_higher strip.across.greatest (cross_of strip.way step) none;
-      narrow = is.narrow;
-    }) onward).takes

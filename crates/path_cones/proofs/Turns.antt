@@ -130,34 +130,6 @@ module _ (points : List Point) (i j : ℕ) (step next : Vector)
   pub other_steps : step ≢ next → step_from (point_at points) i ≢ step_from (point_at points) j
   other_steps not is = not (step_is ∙ as_step points i ∙ is ∙ sym (as_step points j) ∙ sym next_is)
 
--- the step before the one from an index, where the walk goes straight on there
-pub step_before : (points : List Point) (i k : ℕ) (step : Vector) → k ≡ i + 1 → step ≡ vector_of (point_at points k) (point_at points (k + 1))
-    → step_from (point_at points) i ≡ step_from (point_at points) (i + 1) → step ≡ vector_of (point_at points i) (point_at points (i + 1))
-step_before points i k step next is same =
-    is ∙ as_step points k ∙ ap (step_from (point_at points)) next ∙ sym same ∙ sym (as_step points i)
-
--- the walk goes straight on after a step exactly where the next corner isn't one step away
-pub straight_beyond : (points : List Point) (i d : ℕ) → IsNextCorner points i d
-    → (1 < d) ↔ (step_from (point_at points) i ≡ step_from (point_at points) (i + 1))
-straight_beyond points i d next =
-    let some = next.some in
-    let e : i ≡ i + (1 - 1) = omega arith in (
-      λ far. ap (step_from (point_at points)) e ∙ next.none_before 1 (omega arith) far,
-      λ same. elim (cases_lt 1 d) [
-        | inl far ↦ far
-        | inr near ↦
-            let one : d ≡ 1 = omega arith in
-            let f : i + (d - 1) ≡ i = omega arith in
-            let g : i + 1 ≡ i + d = omega arith in
-            absurd (next.turns (ap (step_from (point_at points)) f ∙ same ∙ ap (step_from (point_at points)) g))
-      ],
-    )
-
--- the next corner from an index of two laps, by that from its place
-pub corner_at_place : (points : List Point) (place index d : ℕ) → IsAtPlace points place index → IsNextCorner points place d → IsNextCorner points index d
-corner_at_place points place index d (inl here) next = subst (λ (i : ℕ). IsNextCorner points i d) (sym here) next
-corner_at_place points place index d (inr there) next = subst (λ (i : ℕ). IsNextCorner points i d) (sym there) (corner_lap_on points place d next)
-
 -- ---- from the first point on
 
 pub on_more : (points : List Point) (d : ℕ) → IsStraightOn points 0 d → step_from (point_at points) (d - 1) ≡ step_from (point_at points) d

@@ -3,14 +3,11 @@ ghost use Rattle.std.specs.Prelude.{◌≡◌, ◌⊎◌, ◌+◌, ◌<◌, ◌�
 ghost use Rattle.path_cones.specs.Inner.Cones.{HoldsWay, IsSound};
 ghost use Rattle.path_cones.specs.Straight.{path_from};
 ghost use Rattle.path_cones.specs.Inner.Tails.{IsClearUpTo, IsSubpath, way_along};
-ghost use Rattle.path_cones.specs.Inner.Wedges.{IsScan, IsWedge};
-ghost use Rattle.path_cones.specs.declared.cone.Cone.TheVariants.{Between};
 
 use crate::cone::Cone;
 use crate::landing::scan_up;
 use crate::quarter::Quarter;
 use crate::track::Track;
-use crate::wedge::Wedge;
 
 /// For how many steps from this point on the cones hold, up to a number of steps, and a cone of points among those.
 //
@@ -52,9 +49,8 @@ fn scan_around(track: &Track, first: usize, most: usize) -> Scan
             let last = last_held(track, first, cone, steps, next);
             return Scan { steps: last, cone };
         }
-        let scan = led_on(track, first, most, next, cone.narrowed(way));
-        cone = scan.cone;
-        steps = scan.steps;
+        cone = cone.narrowed(way);
+        steps = next;
     }
     Scan { steps: most, cone }
 }
@@ -64,56 +60,6 @@ fn scan_around(track: &Track, first: usize, most: usize) -> Scan
 pub struct Scan {
     pub steps: usize,
     pub cone: Cone,
-}
-
-/// A scan led on while it is in one quarter of the plane.
-fn led_on(track: &Track, first: usize, most: usize, steps: usize, cone: Cone) -> Scan
-    requires subpath { IsSubpath track.now first most }
-    requires scan { IsScan (path_from track.now first) most steps cone }
-    ensures scan { IsScan (path_from track.now first) most result.steps result.cone }
-    ensures at_least { steps ≤ result.steps }
-{
-    match cone {
-        Cone::Open => Scan { steps, cone },
-        Cone::Between(low, high) => {
-            let wedge = Wedge::new(low, high, track.way(first, most));
-            by_wedge(track, first, most, steps, wedge)
-        }
-    }
-}
-
-/// A scan led on while its cone is in this quarter.
-fn by_wedge(track: &Track, first: usize, most: usize, steps: usize, wedge: Wedge) -> Scan
-    requires subpath { IsSubpath track.now first most }
-    requires wedge { IsWedge wedge }
-    requires scan { IsScan (path_from track.now first) most steps (Between wedge.low.at wedge.high.at) }
-    ensures scan { IsScan (path_from track.now first) most result.steps result.cone }
-    ensures at_least { steps ≤ result.steps }
-{
-    let mut wedge = wedge;
-    let mut done = steps;
-    while done < most {
-        let next = track.corner_after(first, done);
-        // A run that is cut off is left to who called: here it would cost a test for each corner.
-        if most < next {
-            return Scan {
-                steps: done,
-                cone: Cone::Between(wedge.low.at, wedge.high.at),
-            };
-        }
-        let Some(narrower) = wedge.narrowed(track.way(first, next)) else {
-            return Scan {
-                steps: done,
-                cone: Cone::Between(wedge.low.at, wedge.high.at),
-            };
-        };
-        wedge = narrower;
-        done = next;
-    }
-    Scan {
-        steps: done,
-        cone: Cone::Between(wedge.low.at, wedge.high.at),
-    }
 }
 
 /// After how many steps the cone ends, by halving: it holds the point after `held` steps, or is that

@@ -33,7 +33,6 @@ pub mod tail;
 pub mod track;
 pub mod trial;
 pub mod vector;
-mod wedge;
 
 pub use cone::Cone;
 pub use first::{Scan, clear_steps};

@@ -2,7 +2,7 @@
 ghost use Rattle.std.specs.Prelude.{◌≡◌, ◌↔◌, ◌≤◌, ◌-ℤ◌, ◌*ℤ◌, ◌≤ℤ◌, pos, unsigned_abs, IsTrue};
 ghost use Rattle.path_cones.specs.Cones.{cross_of};
 ghost use Rattle.path_cones.specs.Inner.Cones.{low_of, high_of, IsShort};
-ghost use Rattle.path_cones.specs.Inner.Wedges.{GoesOnward, IsInQuarter, IsQuarter, IsSign, diagonal_of, far_of};
+ghost use Rattle.path_cones.specs.Inner.Wedges.{GoesOnward, IsQuarter, IsSign, diagonal_of, far_of};
 ghost use Rattle.path_cones.specs.declared.vector.Vector.{Vector};
 
 use crate::vector::Vector;
@@ -61,64 +61,6 @@ impl Quarter {
         Vector {
             x: self.right,
             y: self.up,
-        }
-    }
-
-    /// Whether a way is in the quarter, and on no axis.
-    pub(crate) fn is_around(self, way: Vector) -> bool
-        requires quarter { IsQuarter self }
-        requires short { IsShort 65536 way }
-        ensures { IsTrue result → IsInQuarter self way }
-    {
-        let turned = self.turned(way);
-        if turned.x < 1 {
-            return false;
-        }
-        0 < turned.y
-    }
-
-    /// Whether a way goes back in neither coordinate.
-    pub(crate) fn is_onward(self, way: Vector) -> bool
-        requires quarter { IsQuarter self }
-        requires short { IsShort 65536 way }
-        ensures { IsTrue result ↔ GoesOnward self way }
-    {
-        let turned = self.turned(way);
-        if turned.x < 0 {
-            return false;
-        }
-        0 <= turned.y
-    }
-
-    /// The corner, farthest to the right, of the square within 1 of the end of a way in this quarter.
-    pub(crate) fn low(self, way: Vector) -> Vector
-        requires inside { IsInQuarter self way }
-        requires short { IsShort 65535 way }
-        ensures value { result ≡ low_of way }
-        ensures turned { (border : Vector) → cross_of border result ≡ cross_of border way -ℤ
-            far_of self border }
-        ensures far { far_of self result ≡ far_of self way }
-        ensures short { IsShort 65536 result }
-    {
-        Vector {
-            x: way.x + self.up,
-            y: way.y - self.right,
-        }
-    }
-
-    /// The corner, farthest to the left, of that square.
-    pub(crate) fn high(self, way: Vector) -> Vector
-        requires inside { IsInQuarter self way }
-        requires short { IsShort 65535 way }
-        ensures value { result ≡ high_of way }
-        ensures turned { (border : Vector) → cross_of result border ≡ cross_of way border -ℤ
-            far_of self border }
-        ensures far { far_of self result ≡ far_of self way }
-        ensures short { IsShort 65536 result }
-    {
-        Vector {
-            x: way.x - self.up,
-            y: way.y + self.right,
         }
     }
 }

@@ -8,7 +8,7 @@ ghost use Rattle.pt_core.specs.declared.point.Point.{Point};
 ghost use Rattle.path_cones.specs.Inner.Cones.{IsShort};
 ghost use Rattle.path_cones.specs.Inner.Strips.{AreStrides, IsAcrossBefore, IsEarlierStrip, IsExtent, IsFromTo, IsSmallExtent, IsSpan, IsStrip, IsWiderLane, StaysIn, TakesIn, TakesInPlace, no_span, seen_of, with_across};
 ghost use Rattle.path_cones.specs.Cones.{cross_of};
-ghost use Rattle.path_cones.specs.Inner.Wedges.{GoesOnward, IsQuarter};
+ghost use Rattle.path_cones.specs.Inner.Wedges.{IsQuarter};
 ghost use Rattle.path_cones.specs.declared.vector.Vector.{Vector};
 ghost use Rattle.path_cones.specs.declared.quarter.Quarter.{Quarter};
 
@@ -196,26 +196,6 @@ impl Strip {
             return None;
         }
         Some(across)
-    }
-
-    /// Whether its way is along a row or a column.
-    pub fn is_along(self) -> bool
-        ensures { IsTrue result ↔ ((self.way.x ≡ pos 0) ⊎ (self.way.y ≡ pos 0)) }
-    {
-        self.way.x == 0 || self.way.y == 0
-    }
-
-    /// Whether the step goes along the way and onward in the quarter, so that the strip seen from one such step earlier is the
-    /// same.
-    pub fn runs_on(self, step: Vector) -> bool
-        requires strip { IsStrip self }
-        requires step { IsShort 1 step }
-        ensures { IsTrue result ↔ ((cross_of self.way step ≡ pos 0) × GoesOnward self.quarter step) }
-    {
-        if self.way.cross(step) != 0 {
-            return false;
-        }
-        self.quarter.is_onward(step)
     }
 }
 

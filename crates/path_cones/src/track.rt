@@ -121,15 +121,6 @@ impl<'p> Track<'p> {
         self.corners[point]
     }
 
-    /// Whether the step after the one from this index of two laps is the same, by the corners alone.
-    #[inline(always)]
-    pub fn goes_straight(&self, index: usize) -> bool
-        requires { index ≤ last_of self.now }
-        ensures { IsTrue result ↔ (step_from (point_at self.now) index ≡ step_from (point_at self.now) (index + 1)) }
-    {
-        self.next_corner(self.place(index)) > 1
-    }
-
     /// The number of steps from the first point to the next corner, on the way from there on and
     /// after so many steps.
     pub(crate) fn corner_after(&self, first: usize, steps: usize) -> usize

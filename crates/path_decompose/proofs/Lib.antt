@@ -25,4 +25,5 @@ pub mod Sides
 pub mod Area
 pub mod Noted
 pub mod Runs
+pub mod Arrivals
 mod Examples

@@ -10,10 +10,10 @@ ghost use Rattle.boundary_edges.specs.Inner.BoundaryBits.{IsSpotAt};
 
 use boundary_edges::{Edges, Layout, Spot};
 use pt_core::{Policy, Sign};
-use turn_policies::{Dir, asks_majority, goes_right, major_in};
+use turn_policies::{Dir, Edge, asks_majority, goes_right, major_in};
 
-/// The heading with which a walk goes on that comes to corner (x, y) with a heading, with black on its left and white on its
-/// right.
+/// The heading with which a walk goes on at a corner to which it comes with black on its left and white on its right. `ahead` is
+/// the edge that would lead straight on from there.
 ///
 /// | Edge straight ahead | Edge on the right | Turn |
 /// |---|---|---|
@@ -22,28 +22,21 @@ use turn_policies::{Dir, asks_majority, goes_right, major_in};
 /// | no | no | left |
 /// | yes | yes | as the policy says |
 #[inline(always)]
-pub(crate) fn turned_at(
-    edges: &Layout,
-    spot: Spot,
-    x: u32,
-    y: u32,
-    heading: Dir,
-    policy: Policy,
-    sign: Sign,
-) -> Dir
-    requires x { x ≤ edges.now.page.now.width }
-    requires y { y ≤ edges.now.page.now.height }
-    requires spot { IsSpotAt edges.now.rows edges.now.starts.now x y spot }
-    requires black_left { right_pixel (south_west (image_of edges.now.page.now)) x y (opposite_of heading) ≡ true }
-    requires white_right { left_pixel (south_west (image_of edges.now.page.now)) x y (opposite_of heading) ≡ false }
-    ensures { result ≡ turn (image_of edges.now.page.now) policy sign x y heading }
+pub(crate) fn turned_at(edges: &Layout, spot: Spot, ahead: Edge, policy: Policy, sign: Sign) -> Dir
+    requires x { ahead.x ≤ edges.now.page.now.width }
+    requires y { ahead.y ≤ edges.now.page.now.height }
+    requires spot { IsSpotAt edges.now.rows edges.now.starts.now ahead.x ahead.y spot }
+    requires black_left { right_pixel (south_west (image_of edges.now.page.now)) ahead.x ahead.y (opposite_of ahead.heading) ≡ true }
+    requires white_right { left_pixel (south_west (image_of edges.now.page.now)) ahead.x ahead.y (opposite_of ahead.heading) ≡ false }
+    ensures { result ≡ turn (image_of edges.now.page.now) policy sign ahead.x ahead.y ahead.heading }
 {
+    let Edge { x, y, heading } = ahead;
     match edges_ahead(edges, spot, x, y, heading) {
         (true, false) => heading,
         (false, true) => heading.right(),
         (false, false) => heading.left(),
         (true, true) => {
-            // Of four edges the black pixels lie behind on the left and ahead on the right.
+            // The black pixels are on the left of the edge that was walked and on the right ahead.
             let black = matches!(heading, Dir::North | Dir::South);
             if chooses_right(edges.page, x, y, black, policy, sign) {
                 heading.right()

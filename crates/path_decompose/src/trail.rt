@@ -1,9 +1,12 @@
 //! What is noted down of a walk along a boundary.
-ghost use Rattle.std.specs.Prelude.{◌≡◌, [], IfOk};
+ghost use Rattle.std.specs.Prelude.{◌≡◌, ◌≤◌, ◌^◌, [], ◌∷◌, IfOk, OnOk};
+ghost use Rattle.pt_core.specs.declared.limits.TheConstants.{LONGEST_SIDE};
+ghost use Rattle.path_decompose.specs.Inner.Trail.{AreNoted, AreSumsBelow};
 
 use pt_core::{NoMemory, Point};
 use std::alloc::Global;
 use std::mem::replace;
+use turn_policies::{Dir, Edge};
 
 /// The list of a walk of more points isn't copied.
 const LONG: usize = 1 << 12;
@@ -38,6 +41,27 @@ impl Trail {
         self.points.clear();
         self.up = 0;
         self.down = 0;
+    }
+
+    /// Notes an edge down: the corner where it begins, and its column if it goes up or down.
+    #[inline(always)]
+    pub(crate) fn note(&mut self, edge: Edge) -> Result<(), NoMemory>
+        requires column { edge.x ≤ LONGEST_SIDE }
+        requires row { edge.y ≤ LONGEST_SIDE }
+        requires sums { AreSumsBelow (2 ^ 63) self.old }
+        ensures { OnOk result (AreNoted self.old self.new (edge ∷ [])) }
+    {
+        let Edge { x, y, heading } = edge;
+        self.points.push(Point {
+            x: x as i32,
+            y: y as i32,
+        })?;
+        match heading {
+            Dir::North => self.up += u64::from(x),
+            Dir::South => self.down += u64::from(x),
+            Dir::East | Dir::West => {}
+        }
+        Ok(())
     }
 
     /// The walk's points, in a list of their own.

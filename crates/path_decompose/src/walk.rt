@@ -7,12 +7,13 @@ ghost use Rattle.boundary_edges.specs.Inner.BoundaryBits.{IsSpotAt};
 ghost use Rattle.path_decompose.specs.Inner.Trail.{is_upright, edge_from, AreSumsBelow, AreNoted, IsStraightRun};
 ghost use Rattle.path_decompose.specs.Walk.{first_edge, IsBoundaryWalk};
 ghost use Rattle.turn_policies.specs.Boundary.{IsBoundary};
+ghost use Rattle.turn_policies.specs.Heading.{end_x, end_y};
 ghost use Rattle.turn_policies.specs.Turn.{next};
 
 use crate::corner::turned_at;
 use crate::trail::Trail;
 use boundary_edges::{Edges, Layout, Spot};
-use pt_core::{NoMemory, Point, Policy, Sign};
+use pt_core::{NoMemory, Policy, Sign};
 use turn_policies::{Dir, Edge};
 
 /// Walks once round the boundary that starts at the first black pixel, pixel (x, y), and notes it down.
@@ -92,9 +93,31 @@ fn turned_upright(
 {
     let Edge { x, y, heading } = edge;
     if matches!(heading, Dir::North) {
-        turned_run(edges, x, y, spot, Dir::North, policy, sign, trail)
+        turned_run(
+            edges,
+            Edge {
+                x,
+                y,
+                heading: Dir::North,
+            },
+            spot,
+            policy,
+            sign,
+            trail,
+        )
     } else {
-        turned_run(edges, x, y, spot, Dir::South, policy, sign, trail)
+        turned_run(
+            edges,
+            Edge {
+                x,
+                y,
+                heading: Dir::South,
+            },
+            spot,
+            policy,
+            sign,
+            trail,
+        )
     }
 }
 
@@ -119,34 +142,58 @@ fn turned_level(
 {
     let Edge { x, y, heading } = edge;
     if matches!(heading, Dir::East) {
-        turned_run(edges, x, y, spot, Dir::East, policy, sign, trail)
+        turned_run(
+            edges,
+            Edge {
+                x,
+                y,
+                heading: Dir::East,
+            },
+            spot,
+            policy,
+            sign,
+            trail,
+        )
     } else {
-        turned_run(edges, x, y, spot, Dir::West, policy, sign, trail)
+        turned_run(
+            edges,
+            Edge {
+                x,
+                y,
+                heading: Dir::West,
+            },
+            spot,
+            policy,
+            sign,
+            trail,
+        )
     }
 }
 
-/// The same of the edge that leaves corner (x, y) with a heading.
+/// The edge to which a walk turns after a run of edges with one heading, which are noted down, and where the edges of the
+/// corner stand that it leaves.
 #[inline(always)]
 fn turned_run(
     edges: &Layout,
-    mut x: u32,
-    mut y: u32,
-    mut spot: Spot,
-    heading: Dir,
+    from: Edge,
+    spot: Spot,
     policy: Policy,
     sign: Sign,
     trail: &mut Trail,
 ) -> Result<(Edge, Spot), NoMemory>
-    requires boundary { IsBoundary (image_of edges.now.page.now) (edge_from x y heading) }
-    requires spot { IsSpotAt edges.now.rows edges.now.starts.now x y spot }
+    requires boundary { IsBoundary (image_of edges.now.page.now) from }
+    requires spot { IsSpotAt edges.now.rows edges.now.starts.now from.x from.y spot }
     requires sums { AreSumsBelow (2 ^ 62) trail.old }
-    ensures run { IfOk result (λ after. IsStraightRun (next (image_of edges.now.page.now) policy sign)
-        (edge_from x y heading) after.0 trail.old trail.new) }
-    ensures turns { IfOk result (λ after. is_upright after.0.heading ≡ not (is_upright heading)) }
+    ensures run { IfOk result (λ after.
+        IsStraightRun (next (image_of edges.now.page.now) policy sign) from after.0 trail.old trail.new) }
+    ensures turns { IfOk result (λ after. is_upright after.0.heading ≡ not (is_upright from.heading)) }
     ensures spot { IfOk result (λ after. IsSpotAt edges.now.rows edges.now.starts.now after.0.x after.0.y after.1) }
 {
     // The width is asked, so that the proof sees that a page is small.
     let _ = edges.page.width();
+    // The heading stays as it is, so that each heading has a loop of its own.
+    let heading = from.heading;
+    let (mut x, mut y, mut spot) = (from.x, from.y, spot);
     'edges: loop {
         let after = step(edges, Edge { x, y, heading }, spot, policy, sign, trail)?;
         if after.0.heading != heading {
@@ -178,62 +225,63 @@ fn step(
 {
     // The width is asked, so that the proof sees that an edge lies on the page.
     let _ = edges.page.width();
+    trail.note(edge)?;
+    let (ahead, end) = ahead_of(edges, edge, spot);
+    let heading = turned_at(edges, end, ahead, policy, sign);
+    Ok((
+        Edge {
+            x: ahead.x,
+            y: ahead.y,
+            heading,
+        },
+        end,
+    ))
+}
+
+/// The edge that would lead straight on from the end of an edge of a boundary, and where the edges of the corner between stand.
+#[inline(always)]
+fn ahead_of(edges: &Layout, edge: Edge, spot: Spot) -> (Edge, Spot)
+    requires boundary { IsBoundary (image_of edges.now.page.now) edge }
+    requires spot { IsSpotAt edges.now.rows edges.now.starts.now edge.x edge.y spot }
+    ensures ahead { result.0 ≡ edge_from (end_x edge.x edge.heading) (end_y edge.y edge.heading) edge.heading }
+    ensures spot { IsSpotAt edges.now.rows edges.now.starts.now result.0.x result.0.y result.1 }
+{
+    // The width is asked, so that the proof sees that an edge lies on the page.
+    let _ = edges.page.width();
     let Edge { x, y, heading } = edge;
-    trail.points.push(Point {
-        x: x as i32,
-        y: y as i32,
-    })?;
     match heading {
-        Dir::North => {
-            trail.up += u64::from(x);
-            let end = edges.above(spot, x, y);
-            let heading = turned_at(edges, end, x, y + 1, Dir::North, policy, sign);
-            Ok((
-                Edge {
-                    x,
-                    y: y + 1,
-                    heading,
-                },
-                end,
-            ))
-        }
-        Dir::East => {
-            let end = edges.right(spot, x, y);
-            let heading = turned_at(edges, end, x + 1, y, Dir::East, policy, sign);
-            Ok((
-                Edge {
-                    x: x + 1,
-                    y,
-                    heading,
-                },
-                end,
-            ))
-        }
-        Dir::South => {
-            trail.down += u64::from(x);
-            let end = edges.below(spot, x, y);
-            let heading = turned_at(edges, end, x, y - 1, Dir::South, policy, sign);
-            Ok((
-                Edge {
-                    x,
-                    y: y - 1,
-                    heading,
-                },
-                end,
-            ))
-        }
-        Dir::West => {
-            let end = edges.left(spot, x, y);
-            let heading = turned_at(edges, end, x - 1, y, Dir::West, policy, sign);
-            Ok((
-                Edge {
-                    x: x - 1,
-                    y,
-                    heading,
-                },
-                end,
-            ))
-        }
+        Dir::North => (
+            Edge {
+                x,
+                y: y + 1,
+                heading,
+            },
+            edges.above(spot, x, y),
+        ),
+        Dir::East => (
+            Edge {
+                x: x + 1,
+                y,
+                heading,
+            },
+            edges.right(spot, x, y),
+        ),
+        Dir::South => (
+            Edge {
+                x,
+                y: y - 1,
+                heading,
+            },
+            edges.below(spot, x, y),
+        ),
+        Dir::West => (
+            Edge {
+                x: x - 1,
+                y,
+                heading,
+            },
+            edges.left(spot, x, y),
+        ),
     }
 }
 

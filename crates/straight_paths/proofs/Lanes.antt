@@ -84,9 +84,6 @@ goes_down (pos zero) some small on = absurd (some refl)
 goes_down (pos (suc n)) some small on = absurd (omega (arith, ints))
 goes_down (negsuc n) some small on = omega (arith, ints)
 
-other_one : (z w : ℤ) → z ≡ w → w ≢ pos 0 → z ≢ pos 0
-other_one z w is some none = some (sym is ∙ none)
-
 one_some : pos 1 ≢ pos 0
 one_some e = omega (arith, ints)
 

@@ -13,15 +13,6 @@ use Rattle.straight_paths.specs.declared.course.Course.{Course}
 use Rattle.straight_paths.specs.declared.table.Table.{Table}
 use Rattle.path_cones.proofs.Pieces.{none_is_straight, rest_of, shorter, without_first}
 
-pub keeps_same : (old new : Table) → new.used ≡ old.used → new.counts.items ≡ old.counts.items → new.digits.items ≡ old.digits.items
-    → new.courses.items ≡ old.courses.items → KeepsWords old new
-keeps_same old new used counts digits courses = record {
-  used = omega arith;
-  counts = λ node h. ap (λ l. get_or l node 0) counts;
-  digits = λ node h. ap (λ l. get_or l node 0) digits;
-  courses = λ node h. ap (λ l. get_or l node no_course) courses;
-}
-
 pub keeps_on : (old mid new : Table) → KeepsWords old mid → KeepsWords mid new → KeepsWords old new
 keeps_on old mid new a b = record {
   used = omega (arith, a.used, b.used);
@@ -143,17 +134,6 @@ tells_whole count digits digit to_count to_digits is coded whole path step rest 
         no_more = λ c few s. few;
       }),
       subst (λ n. IsCoded n path to_digits) e (coded path step rest),
-    )
-
--- what is told of a word of no steps: the step in front is the last one
-pub tells_none : (count digits digit : ℕ) → count ≡ 0 → TellsFront count digits digit count digits digit
-tells_none count digits digit none path step rest straight =
-    let z : 0 ≡ count = omega arith in (
-      (
-        subst (λ n. IsStraightUpTo path n n) z (record { within = omega arith; straight = none_is_straight path; no_more = λ c few s. few }),
-        subst (λ n. IsCoded n path digits) z tt,
-      ),
-      subst (λ n. step_from path n ≡ coded_step digit) z step,
     )
 
 -- what a step leads to in front of the word without its last step
@@ -282,12 +262,6 @@ word_added old new count digits course table keeps used some few l_digits l_coun
 
 -- ---- a word by its digits
 
-pub spelled_none : (table : Table) (digits : ℕ) → 0 < table.used → count_at table 0 ≡ 0 → StandsFor table 0 0 digits
-spelled_none table digits some root = record {
-  known = some;
-  same = λ path coded straight. (root, tt);
-}
-
 pub spelled_longer : (old new : Table) (rest next count digits : ℕ) → 0 < count → StandsFor old rest (count - 1) (digits / 4) → KeepsWords old new
     → LeadsToWord new rest (digits % 4) next → StandsFor new next count digits
 spelled_longer old new rest next count digits some spelled keeps leads = record {
@@ -308,12 +282,6 @@ spelled_longer old new rest next count digits some spelled keeps leads = record 
       let is : count_at new next ≡ count = omega arith in
       (is, subst (λ k. IsCoded k path (digits_at new next)) is told.1);
 }
-
--- the same of equal words
-pub tells_word : (count digits other others digit to_count to_digits : ℕ) → count ≡ other → digits ≡ others
-    → TellsNext count digits digit to_count to_digits → TellsNext other others digit to_count to_digits
-tells_word count digits other others digit to_count to_digits a b tells =
-    subst (λ n. TellsNext n others digit to_count to_digits) a (subst (λ n. TellsNext count n digit to_count to_digits) b tells)
 
 -- what follows from what is there follows where it is there
 pub if_some : (o : Option ℕ) (P Q : ℕ → Type 0) → IfSome o P → ((x : ℕ) → P x → Q x) → IfSome o Q

@@ -93,14 +93,6 @@ stays_whole table whole = record {
 
 -- ---- ends
 
-pub window_at_last : (points : List Point) (last : ℕ) → last ≤ last_of points → IsStraightBefore points last last 0
-window_at_last points last in_laps = record {
-  in_laps = in_laps;
-  within = omega arith;
-  straight = none_is_straight (path_from points last);
-  no_more = λ c h s. omega arith;
-}
-
 pub end_of_window : (points : List Point) (last at count n : ℕ) → IsStraightBefore points last at count → n ≡ min count (limit_of points)
     → IsEnd points last at n
 end_of_window points last at count n w is =

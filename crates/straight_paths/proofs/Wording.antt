@@ -121,13 +121,5 @@ module _ (path : ℕ → Point) (count digit : ℕ) (course : Course) (end : Vec
     taken = taken;
   }
 
--- a step more is a short way still
-pub beyond_short : (way : Vector) (digit n : ℕ) → unsigned_abs way.x ≤ n → unsigned_abs way.y ≤ n
-    → (unsigned_abs (beyond way digit).x ≤ n + 1) × (unsigned_abs (beyond way digit).y ≤ n + 1)
-beyond_short way zero n x y = (omega (arith, ints), omega (arith, ints))
-beyond_short way (suc zero) n x y = (omega (arith, ints), omega (arith, ints))
-beyond_short way (suc (suc zero)) n x y = (omega (arith, ints), omega (arith, ints))
-beyond_short way (suc (suc (suc d))) n x y = (omega (arith, ints), omega (arith, ints))
-
 pub no_way : (path : ℕ → Point) → record { x = pos 0; y = pos 0 } ≡ way_along path 0
 no_way path = same_vector (record { x = pos 0; y = pos 0 }) (way_along path 0) (omega (arith, ints)) (omega (arith, ints))

@@ -3,7 +3,6 @@ ghost use Rattle.std.specs.Prelude.{◌≡◌, ◌⊎◌, ◌+◌, ◌<◌, ◌�
 ghost use Rattle.pt_core.specs.ClosedWalk.{point_at};
 ghost use Rattle.path_cones.specs.Inner.Cones.{IsClear};
 ghost use Rattle.path_cones.specs.Straight.{path_from, vector_of};
-ghost use Rattle.path_cones.specs.Inner.Strips.{TakesStep};
 ghost use Rattle.straight_paths.specs.Inner.Sweeps.{AreEndsFrom, IsEnough, IsSeen, IsSweep, IsTold};
 ghost use Rattle.straight_paths.specs.Inner.Tables.{IsWordTable};
 ghost use Rattle.path_cones.specs.Inner.Tails.{AreStraight, both_back_of, last_of, limit_of};
@@ -263,9 +262,6 @@ fn held_by_strip(track: &Track, last: usize, lap: usize, start: Hold, steps: &mu
     let Some(strip) = start.seen.strip else {
         return start;
     };
-    if strip.is_along() {
-        return held_by_runs(track, last, lap, start, steps);
-    }
     let tail = start.seen.tail;
     if !strip.back.is_nowhere() || tail.ahead.behind(strip.quarter) < tail.end {
         return held_by_steps(track, last, lap, start, steps);
@@ -376,27 +372,6 @@ fn later_of(one: usize, other: usize) -> usize
     if one < other { other } else { one }
 }
 
-/// The same by the straight runs along a row or a column.
-//
-// A strip that goes another way has its borders shifted by each step, so none of its runs can be taken as a whole.
-#[inline(always)]
-fn held_by_runs(track: &Track, last: usize, lap: usize, start: Hold, steps: &mut [u32]) -> Hold
-    requires seen { IsSeen track.now last start.index start.seen }
-    requires ends { AreEndsFrom track.now last lap start.index steps.old }
-    ensures index { result.index ≤ start.index }
-    ensures seen { IsSeen track.now last result.index result.seen }
-    ensures ends { AreEndsFrom track.now last lap result.index steps.new }
-{
-    let mut hold = start;
-    while hold.index > lap {
-        let Some(earlier) = held_back(track, last, lap, hold, steps) else {
-            return hold;
-        };
-        hold = held_along(track, last, lap, earlier, steps);
-    }
-    hold
-}
-
 /// Writes down how many steps are straight from one index earlier, if the strip holds that point too.
 #[inline(always)]
 fn held_back(track: &Track, last: usize, lap: usize, hold: Hold, steps: &mut [u32]) -> Option<Hold>
@@ -412,79 +387,6 @@ fn held_back(track: &Track, last: usize, lap: usize, hold: Hold, steps: &mut [u3
     let seen = hold.seen.by_strip(track, index, last, track.step(index))?;
     steps[index - lap] = (seen.tail.end - index) as u32;
     Some(Hold { index, seen })
-}
-
-/// Writes down how many steps are straight from the earlier points of a straight run, if the strip stays as it is along it.
-#[inline(always)]
-fn held_along(track: &Track, last: usize, lap: usize, hold: Hold, steps: &mut [u32]) -> Hold
-    requires before { hold.index < last }
-    requires seen { IsSeen track.now last hold.index hold.seen }
-    requires ends { AreEndsFrom track.now last lap hold.index steps.old }
-    ensures index { result.index ≤ hold.index }
-    ensures seen { IsSeen track.now last result.index result.seen }
-    ensures ends { AreEndsFrom track.now last lap result.index steps.new }
-{
-    let step = track.step(hold.index);
-    match hold.seen.strip {
-        Some(strip) => {
-            if strip.runs_on(step) {
-                run_back(
-                    track,
-                    last,
-                    lap,
-                    hold.index,
-                    hold.seen.tail,
-                    strip,
-                    step,
-                    steps,
-                )
-            } else {
-                hold
-            }
-        }
-        None => hold,
-    }
-}
-
-/// The same for a strip that stays as it is where such steps come before.
-//
-// Along the run one direction is taken sooner, and the others as late as before. So nothing ends sooner but by the limit, and
-// where the steps are taken is told once for the whole run.
-#[inline(always)]
-fn run_back(
-    track: &Track,
-    last: usize,
-    lap: usize,
-    from: usize,
-    tail: Tail,
-    strip: Strip,
-    step: Vector,
-    steps: &mut [u32],
-) -> Hold
-    requires step { step ≡ vector_of (point_at track.now from) (point_at track.now (from + 1)) }
-    requires keeps { TakesStep strip step strip }
-    requires seen { IsSeen track.now last from (record { tail = tail; strip = Some strip }) }
-    requires ends { AreEndsFrom track.now last lap from steps.old }
-    ensures index { result.index ≤ from }
-    ensures seen { IsSeen track.now last result.index result.seen }
-    ensures ends { AreEndsFrom track.now last lap result.index steps.new }
-{
-    let limit = track.limit();
-    let mut index = from;
-    while index > lap && track.goes_straight(index - 1) {
-        index -= 1;
-        steps[index - lap] = min(tail.end - index, limit) as u32;
-    }
-    Hold {
-        index,
-        seen: Seen {
-            tail: Tail {
-                end: min(tail.end, index + limit),
-                ahead: tail.ahead.sooner(step, index),
-            },
-            strip: Some(strip),
-        },
-    }
 }
 
 /// How many steps of the second lap matter: no straight subpath from its first point is so long, or they are as

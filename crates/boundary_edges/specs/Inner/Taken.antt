@@ -1,26 +1,11 @@
 -- What is taken away of the edges along a closed walk's lines, corner by corner. The words that hold edges stand in blocks.
-use Rattle.std.specs.Prelude.{◌≡◌, ◌^◌, nat_abs, ℕ, ◌+◌, ◌<◌, Bool, not, ◌&&◌, nat_lt, List, All, drop, slice_index_or, count_by}
+use Rattle.std.specs.Prelude.{◌≡◌, ◌^◌, ℕ, ◌+◌, ◌<◌, Bool, not, ◌&&◌, nat_lt, List, All, drop, slice_index_or, count_by}
 use Rattle.pt_core.specs.ClosedWalk.{origin, IsClosedWalk}
 use Rattle.pt_core.specs.declared.point.Point.{Point}
-use Rattle.turn_policies.specs.declared.heading.Dir.{Dir}
-use Rattle.turn_policies.specs.declared.heading.Dir.TheVariants.{North, East, South, West}
-use Rattle.boundary_edges.specs.declared.edges.TheConstants.{MARGIN}
-use Rattle.boundary_edges.specs.declared.strips.Spot.{Spot}
 use Rattle.boundary_edges.specs.GridEdges.{GridEdge}
-use Rattle.boundary_edges.specs.Inside.{lines_to}
+use Rattle.boundary_edges.specs.Inside.{lines_of, lines_to}
 use Rattle.boundary_edges.specs.Inner.Blocks.{spread, AreBlocks}
-use Rattle.boundary_edges.specs.Inner.BoundaryBits.{has_edge, is_along, FitsStrips, IsSpot}
-
--- where the edges of the corner at a point stand
-abbrev pub IsSpotOf : ℕ → List ℕ → Point → Spot → Type 0
-IsSpotOf rows starts p spot = IsSpot rows starts (nat_abs p.x + MARGIN) (nat_abs p.y + MARGIN) spot
-
--- a step with this heading leads from one point to the other
-abbrev pub IsTowards : Dir → Point → Point → Type 0
-IsTowards North p q = (nat_abs p.x ≡ nat_abs q.x) × (nat_abs q.y ≡ nat_abs p.y + 1)
-IsTowards East p q = (nat_abs p.y ≡ nat_abs q.y) × (nat_abs q.x ≡ nat_abs p.x + 1)
-IsTowards South p q = (nat_abs p.x ≡ nat_abs q.x) × (nat_abs p.y ≡ nat_abs q.y + 1)
-IsTowards West p q = (nat_abs p.y ≡ nat_abs q.y) × (nat_abs p.x ≡ nat_abs q.x + 1)
+use Rattle.boundary_edges.specs.Inner.BoundaryBits.{has_edge, is_along, FitsStrips}
 
 -- words of this number, in strips of so many rows, have room for the edges of a closed walk's corners
 pub record AreWordsFor (points : List Point) (rows size : ℕ) : Type 0 where
@@ -45,10 +30,10 @@ pub record AreTakenBy (rows : ℕ) (starts : List ℕ) (test : ℕ → ℕ → �
   pub blocks : AreBlocks starts new
   pub edges : (k u v : ℕ) → k < 2 → has_edge rows (spread starts new) k u v ≡ has_edge rows (spread starts old) k u v && not (test k u v)
 
--- The edges along a closed walk's lines from its corner i to its corner j are taken away. Others are left, but for those along the
--- lines that follow, of which nothing is said.
-pub record AreLinesTaken (rows : ℕ) (starts : List ℕ) (points : List Point) (i j : ℕ) (old new : List ℕ) : Type 0 where
+-- The edges along a closed walk's lines up to its corner j are taken away. Others are left, except those along the lines that
+-- follow, of which nothing is said.
+pub record AreLinesTaken (rows : ℕ) (starts : List ℕ) (points : List Point) (j : ℕ) (old new : List ℕ) : Type 0 where
   pub blocks : AreBlocks starts new
   pub edges : (k u v : ℕ) → k < 2
       → has_edge rows (spread starts new) k u v && not (is_along_any (lines_from points j) k u v)
-      ≡ has_edge rows (spread starts old) k u v && not (is_along_any (lines_from points i) k u v)
+      ≡ has_edge rows (spread starts old) k u v && not (is_along_any (lines_of points) k u v)

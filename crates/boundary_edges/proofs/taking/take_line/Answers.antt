@@ -4,7 +4,7 @@ use Rattle.std.proofs.lemmas.Int.{ints}
 use Rattle.std.proofs.lemmas.Bool.{eq-eqb, false≢true}
 use Rattle.boundary_edges.proofs.EdgeTaken.{spot_inside}
 use Rattle.boundary_edges.proofs.LineSpots.{word_back, spot_same, farther_has_spot, spot_is}
-use Rattle.boundary_edges.proofs.Straight.{taken_same}
+use Rattle.boundary_edges.proofs.LinesTaken.{taken_same}
 use Rattle.boundary_edges.proofs.taking.take_line.Goals as goal
 
 -- coordinates that aren't below 0 are told by their sizes

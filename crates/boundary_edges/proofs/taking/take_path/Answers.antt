@@ -4,8 +4,8 @@ use Rattle.boundary_edges.specs.Inner.BoundaryBits.{FitsStrips}
 use Rattle.boundary_edges.proofs.Spread.{length-spread}
 use Rattle.boundary_edges.proofs.taking.take_path.Goals as goal
 
-pub take_stretches-requires-clause-words : goal.take_stretches-requires-clause-words
-take_stretches-requires-clause-words c =
+pub take_lines-requires-clause-words : goal.take_lines-requires-clause-words
+take_lines-requires-clause-words c =
     let starts = c.words.inside.starts.items in
     let size = sym (ap length c.words.view_is) ∙ length-spread starts c.words.inside.words.items ∙ ap (λ ss. 16 * length ss) (sym c.deref.ensures.value) in
     record { few = c.requires.rows; closed = c.requires.closed; room = subst (λ n. All (FitsStrips c.args.rows n) c.args.points.now) size c.requires.room }

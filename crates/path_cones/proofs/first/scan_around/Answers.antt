@@ -4,8 +4,8 @@ use Rattle.path_cones.specs.Inner.Cones.{HoldsWay, IsClear}
 use Rattle.path_cones.proofs.Clear.{next_holds, next_clear, ends_within}
 use Rattle.path_cones.proofs.first.scan_around.Goals as goal
 
-pub led_on-scan-requires-clause-scan : goal.led_on-scan-requires-clause-scan
-led_on-scan-requires-clause-scan c =
+pub loop-steps-preserved : goal.loop-steps-preserved
+loop-steps-preserved c =
     let s = c.loop-steps.steps in
     let next = c.run_end-next.result in
     let path = path_from c.args.track.now c.args.first in
@@ -16,16 +16,11 @@ led_on-scan-requires-clause-scan c =
     let held : HoldsWay c.loop-steps.cone c.way-way.result = search rules in
     record {
       within = omega arith;
-      sound = c.narrowed.ensures.sound;
+      sound = c.narrowed-cone.ensures.sound;
       holds = next_holds path s next c.loop-steps.cone c.way-way.result c.way-way.ensures.value more run inv.holds
-          c.narrowed.result c.narrowed.ensures.both;
+          c.narrowed-cone.result c.narrowed-cone.ensures.both;
       clear = next_clear path s next c.loop-steps.cone c.way-way.result c.way-way.ensures.value more run inv.holds inv.clear held;
     }
-
-pub loop-steps-preserved : goal.loop-steps-preserved
-loop-steps-preserved c =
-    let scan = c.led_on-scan.ensures.scan in
-    record { within = scan.within; sound = scan.sound; holds = scan.holds; clear = scan.clear }
 
 pub returns-then-not-holds-clause-steps : goal.returns-then-not-holds-clause-steps
 returns-then-not-holds-clause-steps c =

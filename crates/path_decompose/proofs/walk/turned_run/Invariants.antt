@@ -11,13 +11,13 @@ use Rattle.path_decompose.proofs.walk.turned_run.Given as goal
 abbrev pub invariant-edges : goal.invariant-edges
 invariant-edges l =
     record {
-      run : IsStraightRun (next (image_of l.edges.page.now) l.policy l.sign) (edge_from l.fn.x l.fn.y l.heading) (edge_from l.x l.y l.heading) l.initial.trail l.trail;
-      boundary : IsBoundary (image_of l.edges.page.now) (edge_from l.x l.y l.heading);
+      run : IsStraightRun (next (image_of l.edges.page.now) l.policy l.sign) l.fn.from (edge_from l.x l.y l.fn.from.heading) l.initial.trail l.trail;
+      boundary : IsBoundary (image_of l.edges.page.now) (edge_from l.x l.y l.fn.from.heading);
       spot : IsSpotAt l.edges.rows l.edges.starts.now l.x l.y l.spot;
-      up : l.trail.up + edges_left l.edges.page.now.width l.edges.page.now.height l.x l.y l.heading * LONGEST_SIDE < 2 ^ 63;
-      down : l.trail.down + edges_left l.edges.page.now.width l.edges.page.now.height l.x l.y l.heading * LONGEST_SIDE < 2 ^ 63;
+      up : l.trail.up + edges_left l.edges.page.now.width l.edges.page.now.height l.x l.y l.fn.from.heading * LONGEST_SIDE < 2 ^ 63;
+      down : l.trail.down + edges_left l.edges.page.now.width l.edges.page.now.height l.x l.y l.fn.from.heading * LONGEST_SIDE < 2 ^ 63;
     }
 
 -- the edges up to the page's side
 abbrev pub decreases-edges : goal.decreases-edges
-decreases-edges l = edges_left l.edges.page.now.width l.edges.page.now.height l.x l.y l.heading
+decreases-edges l = edges_left l.edges.page.now.width l.edges.page.now.height l.x l.y l.fn.from.heading
